@@ -1,0 +1,4 @@
+pub mod Walking
+pub mod Linking
+pub mod Clearing
+pub mod Putting
