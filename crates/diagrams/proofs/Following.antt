@@ -1,0 +1,41 @@
+-- One row of a walk: the choice belongs to a row as it belongs to with or without.
+use mathlib.Core.Path.{_≡_, refl, sym, ap, subst, _∙_}
+use mathlib.Core.Logic.{∥∥₁-elim}
+use mathlib.Core.List.{List}
+use mathlib.Core.Bool.{Bool, true, false, cond}
+use Prim.Native.Nat.{ℕ, zero, suc, _+_, _-_, _/_, _%_, _^_, _≤_, _<_}
+use native.Mathlib.Omega.{arith}
+use lib.Dec.{eqb}
+use Rattle.std.proofs.shelf.Tests.{cond-true, cond-false, eq-eqb, ne-eqb}
+use Rattle.diagrams.specs.declared.Row.{Row}
+use Rattle.theory.specs.Rounds.{bit}
+use Rattle.diagrams.specs.Diagram.{Sound, row-at, member}
+use Rattle.diagrams.specs.Books.{Kept-book}
+use Rattle.diagrams.proofs.Making.{member-row}
+use Rattle.diagrams.proofs.SoundProp.{sound-prop}
+
+pub kept-sound : {rows : List Row} {count : ℕ} → ∥ Kept-book rows count ∥₁ → Sound rows count
+kept-sound {rows} {count} t = ∥∥₁-elim t (sound-prop rows count) (λ k. k .sound)
+
+module _ (rows : List Row) (count : ℕ) (sound : Sound rows count) where
+  pub into-with : (n c : ℕ) → 2 ≤ n → n < count + 2 → c / 2 ^ row-at rows (n - 2) .position % 2 ≡ 1 → (row-at rows (n - 2) .with < count + 2) × (member rows (row-at rows (n - 2) .with) c ≡ member rows n c)
+  unfolding bit
+  into-with n c low h on =
+      let lt : n - 2 < count = omega arith in
+      let e : suc (suc (n - 2)) ≡ n = omega arith in
+      (sound .ordered (n - 2) lt .held-with,
+       sym (ap (λ z. member rows z c) (sym e) ∙ member-row rows count sound (n - 2) c lt ∙ cond-true _ _ _ (eq-eqb _ 1 on)))
+
+  pub into-without : (n c : ℕ) → 2 ≤ n → n < count + 2 → (c / 2 ^ row-at rows (n - 2) .position % 2 ≡ 1 → ⊥) → (row-at rows (n - 2) .without < count + 2) × (member rows (row-at rows (n - 2) .without) c ≡ member rows n c)
+  unfolding bit
+  into-without n c low h off =
+      let lt : n - 2 < count = omega arith in
+      let e : suc (suc (n - 2)) ≡ n = omega arith in
+      (sound .ordered (n - 2) lt .held-without,
+       sym (ap (λ z. member rows z c) (sym e) ∙ member-row rows count sound (n - 2) c lt ∙ cond-false _ _ _ (ne-eqb _ 1 off)))
+
+pub at-end : (rows : List Row) (n c : ℕ) → n < 2 → eqb n 1 ≡ member rows n c
+unfolding member
+at-end rows zero c h = refl
+at-end rows (suc zero) c h = refl
+at-end rows (suc (suc n)) c h = absurd (omega (arith, h))

@@ -1,0 +1,15 @@
+pub mod Counted
+pub mod Canonical
+pub mod Mixing
+pub mod Kept
+pub mod SoundProp
+pub mod InUse
+pub mod Appended
+pub mod Making
+pub mod MakingRows
+pub mod Shortening
+pub mod Recursion
+pub mod Applied
+pub mod Clearing
+pub mod Leaves
+pub mod Following

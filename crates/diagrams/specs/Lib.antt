@@ -1,0 +1,4 @@
+pub mod Diagram
+pub mod Books
+pub mod Making
+pub mod Applying

@@ -1,0 +1,34 @@
+ghost use mathlib.Core.Path.{_≡_};
+ghost use Prim.Native.Nat.{_+_, _*_};
+
+// A row of a decision diagram: at a position, the numbers of the set's halves without and with it.
+#[derive(Clone, Copy)]
+pub struct Row {
+    pub position: u8,
+    pub without: u16,
+    pub with: u16,
+}
+
+// How two sets are put together.
+#[derive(Clone, Copy)]
+pub enum Operation {
+    Union,
+    Intersection,
+}
+
+// The rows wanted outnumber those there are.
+#[derive(Clone, Copy)]
+pub struct NoRoom;
+
+pub impl register::Row for Row as DiagramRow {
+    ghost hash = { λ r. r .without * 3 + r .with * 613 + r .position * 1021 };
+
+    fn matches(self, other: Row) -> bool {
+        self.position == other.position && self.without == other.without && self.with == other.with
+    }
+
+    // Neighbouring numbers are common: the factors keep them in different buckets.
+    fn hash(self) -> u32 {
+        self.without as u32 * 3 + self.with as u32 * 613 + self.position as u32 * 1021
+    }
+}
