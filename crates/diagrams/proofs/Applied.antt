@@ -22,7 +22,7 @@ use Rattle.diagrams.specs.Books.{together, union-or-intersection, capacity}
 use Rattle.diagrams.specs.declared.Operation.{Operation}
 use Rattle.diagrams.specs.declared.Operation.the-variants.{Union, Intersection}
 use Rattle.diagrams.specs.Books.{Kept-book}
-use Rattle.diagrams.specs.Applying.{Extends, Fit, Makes, Applies, Shortens}
+use Rattle.diagrams.specs.Applying.{Extends, Fit, Makes, Applies, Shortens, Step}
 use Rattle.diagrams.proofs.Shortening.{position-row}
 use Rattle.diagrams.proofs.Kept.{member-kept, position-kept}
 use Rattle.diagrams.proofs.Mixing.{same-choice, bit-put-same, bit-put-other, rows-split}
@@ -46,8 +46,8 @@ pub shortened : (rows : List Row) (count : ℕ) → Sound rows count → (op : O
 shortened rows count sound op a b n ha hb s =
     plain rows count sound (union-or-intersection op rows a b) n (⊎-elim (λ e. omega (arith, e, ha)) (λ e. omega (arith, e, hb)) (s .0)) (s .1 rows)
 
-pub extends-more : (rows : List Row) (count : ℕ) (rows₁ : List Row) (count₁ : ℕ) (rows₂ : List Row) (count₂ : ℕ) → Extends rows count rows₁ count₁ → Extends rows₁ count₁ rows₂ count₂ → Extends rows count rows₂ count₂
-extends-more rows count rows₁ count₁ rows₂ count₂ e f = record {
+pub extends-more : {rows : List Row} {count : ℕ} {rows₁ : List Row} {count₁ : ℕ} {rows₂ : List Row} {count₂ : ℕ} → Extends rows count rows₁ count₁ → Extends rows₁ count₁ rows₂ count₂ → Extends rows count rows₂ count₂
+extends-more {rows} {count} {rows₁} {count₁} {rows₂} {count₂} e f = record {
   long = f .long ∙ e .long;
   stay = λ r lt. f .stay r (omega (arith, lt, e .more)) ∙ e .stay r lt;
   more = omega (arith, e .more, f .more);
@@ -93,24 +93,12 @@ module _ (rows : List Row) (count : ℕ) (sound : Sound rows count) (p : ℕ) (l
       side true e = omega (arith, e, sound .ordered r (omega (arith, h)) .higher-with)
       side false e = omega (arith, e, sound .ordered r (omega (arith, h)) .higher-without)
 
--- two numbers of rows, the first position that they ask for, and the numbers of their halves there
-pub record Step (rows : List Row) (count : ℕ) (op : Operation) (a b p a₀ b₀ a₁ b₁ : ℕ) : Type 0 where
-  pub sound : Sound rows count
-  pub in-range : p < 16
-  pub held-left : a < count + 2
-  pub held-right : b < count + 2
-  pub first : p ≡ min (position-of rows a) (position-of rows b)
-  pub left-without : a₀ ≡ child rows p a false
-  pub right-without : b₀ ≡ child rows p b false
-  pub left-with : a₁ ≡ child rows p a true
-  pub right-with : b₁ ≡ child rows p b true
-
-pub step : (rows : List Row) (count : ℕ) → Kept-book rows count → (op : Operation) (a b p a₀ b₀ a₁ b₁ : ℕ) → a < count + 2 → b < count + 2 → (2 ≤ a) × (2 ≤ b)
+pub step : (rows : List Row) (count : ℕ) → Sound rows count → (a b p a₀ b₀ a₁ b₁ : ℕ) → a < count + 2 → b < count + 2 → (2 ≤ a) × (2 ≤ b)
     → p ≡ min (position-of rows a) (position-of rows b) → a₀ ≡ child rows p a false → b₀ ≡ child rows p b false → a₁ ≡ child rows p a true → b₁ ≡ child rows p b true
-    → Step rows count op a b p a₀ b₀ a₁ b₁
-step rows count kept op a b p a₀ b₀ a₁ b₁ ha hb le first ea₀ eb₀ ea₁ eb₁ = record {
-  sound = kept .sound;
-  in-range = omega (arith, first, position-row rows a (le .0), kept .sound .ordered (a - 2) (omega (arith, ha, le .0)) .in-range);
+    → Step rows count a b p a₀ b₀ a₁ b₁
+step rows count sound a b p a₀ b₀ a₁ b₁ ha hb le first ea₀ eb₀ ea₁ eb₁ = record {
+  sound = sound;
+  in-range = omega (arith, first, position-row rows a (le .0), sound .ordered (a - 2) (omega (arith, ha, le .0)) .in-range);
   held-left = ha;
   held-right = hb;
   first = first;
@@ -127,7 +115,7 @@ broken rows count rows′ count′ s (Err e) is t = t
 pub below : {x y z : ℕ} → x < y → y ≡ z → x < z
 below {x} {y} {z} h e = omega arith
 
-module _ (rows : List Row) (count : ℕ) (op : Operation) (a b p a₀ b₀ a₁ b₁ : ℕ) (st : Step rows count op a b p a₀ b₀ a₁ b₁) where
+module _ {rows : List Row} {count : ℕ} (op : Operation) {a b p a₀ b₀ a₁ b₁ : ℕ} (st : Step rows count a b p a₀ b₀ a₁ b₁) where
   abbrev s : Choices
   s = union-or-intersection op rows a b
 
@@ -179,7 +167,7 @@ module _ (rows : List Row) (count : ℕ) (op : Operation) (a b p a₀ b₀ a₁ 
   pub without-full : More-than (capacity rows) (λ x. In-use rows count x ⊎ Row-of (union-or-intersection op rows a₀ b₀) x) → More-than (capacity rows) (λ x. In-use rows count x ⊎ Row-of s x)
   without-full t = more-map (capacity rows) (capacity rows) (omega arith) (λ x. ⊎-elim inl (λ row. inr (into-whole false x (subst (λ z. Row-of z x) without-is row)))) t
 
-  module _ (rows₁ : List Row) (count₁ : ℕ) (ext : Extends rows count rows₁ count₁) where
+  module _ {rows₁ : List Row} {count₁ : ℕ} (ext : Extends rows count rows₁ count₁) where
     abbrev s₁ : Choices
     s₁ = union-or-intersection op rows₁ a₁ b₁
 
@@ -188,15 +176,22 @@ module _ (rows : List Row) (count : ℕ) (op : Operation) (a b p a₀ b₀ a₁ 
 
     pub falls-with : 16 - min (position-of rows₁ a₁) (position-of rows₁ b₁) < 16 - min (position-of rows a) (position-of rows b)
     falls-with =
-        omega (arith, st .first, st .in-range, higher a₁ a true (st .left-with) (st .held-left) la, higher b₁ b true (st .right-with) (st .held-right) lb,
-        position-kept rows rows₁ count sound (ext .stay) a₁ (held-with .0), position-kept rows rows₁ count sound (ext .stay) b₁ (held-with .1))
+        omega (
+          arith,
+          st .first,
+          st .in-range,
+          higher a₁ a true (st .left-with) (st .held-left) la,
+          higher b₁ b true (st .right-with) (st .held-right) lb,
+          position-kept rows rows₁ count sound (ext .stay) a₁ (held-with .0),
+          position-kept rows rows₁ count sound (ext .stay) b₁ (held-with .1),
+        )
 
     with-is : s₁ ≡ half s p true
     with-is =
         fun-ext (λ c. ap₂ (together op) (member-kept rows rows₁ count sound (ext .stay) a₁ c (held-with .0)) (member-kept rows rows₁ count sound (ext .stay) b₁ c (held-with .1)))
         ∙ half-is true a₁ b₁ (st .left-with) (st .right-with)
 
-    module _ (n₁ : ℕ) (one : Adds rows count rows₁ count₁ (union-or-intersection op rows a₀ b₀) n₁) where
+    module _ {n₁ : ℕ} (one : Adds rows count rows₁ count₁ (union-or-intersection op rows a₀ b₀) n₁) where
       one-is : Adds rows count rows₁ count₁ (half s p false) n₁
       one-is = subst (λ z. Adds rows count rows₁ count₁ z n₁) without-is one
 
@@ -205,7 +200,7 @@ module _ (rows : List Row) (count : ℕ) (op : Operation) (a b p a₀ b₀ a₁ 
           more-map (capacity rows₁) (capacity rows) (omega (arith, ext .long))
           (λ x. ⊎-elim (λ u. ⊎-elim inl (λ row. inr (into-whole false x row)) (one-is .exact x .0 u)) (λ row. inr (into-whole true x (subst (λ z. Row-of z x) with-is row)))) t
 
-      module _ (rows₂ : List Row) (count₂ n₂ : ℕ) (two : Adds rows₁ count₁ rows₂ count₂ s₁ n₂) where
+      module _ {rows₂ : List Row} {count₂ n₂ : ℕ} (two : Adds rows₁ count₁ rows₂ count₂ s₁ n₂) where
         halves : Halves rows count rows₂ count₂ s p n₁ n₂
         halves = halves-made rows count rows₁ count₁ rows₂ count₂ s p n₁ n₂ (st .in-range) from-on one-is (subst (λ z. Adds rows₁ count₁ rows₂ count₂ z n₂) with-is two)
 

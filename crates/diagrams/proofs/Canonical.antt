@@ -10,7 +10,7 @@ use lib.Dec.{eqb}
 use Rattle.std.proofs.shelf.Tests.{eq-eqb, ne-eqb, cond-true, cond-false, cases-lt, true≢false, false≢true}
 use Rattle.diagrams.specs.declared.Row.{Row}
 use Rattle.theory.specs.Rounds.{bit, choice-of}
-use Rattle.diagrams.specs.Diagram.{Sound, Ordered, Equal-sets-one-number, position-of, row-at, walk, member}
+use Rattle.diagrams.specs.Diagram.{Sound, Ordered, Canonical-rows, position-of, row-at, walk, member}
 
 unit-lt : (b : Bool) → cond b 1 0 < 2
 unit-lt true = omega arith
@@ -171,5 +171,5 @@ module _ (rows : List Row) (count : ℕ) (sound : Sound rows count) where
       let c = choice-of 16 has in
       asks-from 16 a has (bit c) ha (λ p _ lt. sym (bit-choice 16 p has lt)) ∙ e c (choice-lt 16 has) ∙ asks-from 16 b (bit c) has hb (λ p _ lt. bit-choice 16 p has lt)
 
-pub equal-sets-one-number : Equal-sets-one-number
+pub equal-sets-one-number : (rows : List Row) (count : ℕ) → Sound rows count → Canonical-rows rows count
 equal-sets-one-number rows count sound a b ha hb e = one-number rows count sound 16 a b ha hb (omega arith) (omega arith) (by-choices rows count sound a b ha hb e)

@@ -22,17 +22,19 @@ module _ (rows : List Row) (count : ℕ) (sound : Sound rows count) where
   unfolding bit
   into-with n c low h on =
       let lt : n - 2 < count = omega arith in
-      let e : suc (suc (n - 2)) ≡ n = omega arith in
-      (sound .ordered (n - 2) lt .held-with,
-       sym (ap (λ z. member rows z c) (sym e) ∙ member-row rows count sound (n - 2) c lt ∙ cond-true _ _ _ (eq-eqb _ 1 on)))
+      let e : suc (suc (n - 2)) ≡ n = omega arith in (
+        sound .ordered (n - 2) lt .held-with,
+        sym (ap (λ z. member rows z c) (sym e) ∙ member-row rows count sound (n - 2) c lt ∙ cond-true _ _ _ (eq-eqb _ 1 on)),
+      )
 
   pub into-without : (n c : ℕ) → 2 ≤ n → n < count + 2 → (c / 2 ^ row-at rows (n - 2) .position % 2 ≡ 1 → ⊥) → (row-at rows (n - 2) .without < count + 2) × (member rows (row-at rows (n - 2) .without) c ≡ member rows n c)
   unfolding bit
   into-without n c low h off =
       let lt : n - 2 < count = omega arith in
-      let e : suc (suc (n - 2)) ≡ n = omega arith in
-      (sound .ordered (n - 2) lt .held-without,
-       sym (ap (λ z. member rows z c) (sym e) ∙ member-row rows count sound (n - 2) c lt ∙ cond-false _ _ _ (ne-eqb _ 1 off)))
+      let e : suc (suc (n - 2)) ≡ n = omega arith in (
+        sound .ordered (n - 2) lt .held-without,
+        sym (ap (λ z. member rows z c) (sym e) ∙ member-row rows count sound (n - 2) c lt ∙ cond-false _ _ _ (ne-eqb _ 1 off)),
+      )
 
 pub at-end : (rows : List Row) (n c : ℕ) → n < 2 → eqb n 1 ≡ member rows n c
 unfolding member

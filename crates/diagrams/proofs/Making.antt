@@ -20,9 +20,6 @@ use Rattle.diagrams.proofs.Mixing.{top, rows-split, bit-put-same, bit-put-othe
 use Rattle.diagrams.proofs.InUse.{differ-or-agree, member-from-on, with-half, without-half, counts-in-use, part-kept}
 use Rattle.diagrams.proofs.Appended.{new-member, sound-appended, in-use-appended}
 
-
-
-
 pub member-row : (rows : List Row) (count : ℕ) → Sound rows count → (r c : ℕ) → r < count
     → member rows (suc (suc r)) c ≡ cond (bit c (row-at rows r .position)) (member rows (row-at rows r .with) c) (member rows (row-at rows r .without) c)
 unfolding member

@@ -52,29 +52,29 @@ short-same op a b e = (inl refl, λ rows c. together-same op (member rows a c) �
 at : (v : Bool) (n m : ℕ) → ((rows : List Row) (c : ℕ) → member rows m c ≡ v) → n ≡ m → (rows : List Row) (c : ℕ) → member rows n c ≡ v
 at v n m k e rows c = ap (λ z. member rows z c) e ∙ k rows c
 
-pub either-left-0 : (a b : ℕ) → a ≡ 0 → Shortens Union a b (Some b)
-either-left-0 a b e = (inr refl, λ rows c. ap (λ v. v || member rows b c) (sym (at false a 0 member-0 e rows c)))
+pub union-left-0 : (a b : ℕ) → a ≡ 0 → Shortens Union a b (Some b)
+union-left-0 a b e = (inr refl, λ rows c. ap (λ v. v || member rows b c) (sym (at false a 0 member-0 e rows c)))
 
-pub either-right-0 : (a b : ℕ) → b ≡ 0 → Shortens Union a b (Some a)
-either-right-0 a b e = (inl refl, λ rows c. or-false (member rows a c) ∙ ap (λ v. member rows a c || v) (sym (at false b 0 member-0 e rows c)))
+pub union-right-0 : (a b : ℕ) → b ≡ 0 → Shortens Union a b (Some a)
+union-right-0 a b e = (inl refl, λ rows c. or-false (member rows a c) ∙ ap (λ v. member rows a c || v) (sym (at false b 0 member-0 e rows c)))
 
-pub either-left-1 : (a b : ℕ) → a ≡ 1 → Shortens Union a b (Some a)
-either-left-1 a b e = (inl refl, λ rows c. at true a 1 member-1 e rows c ∙ ap (λ v. v || member rows b c) (sym (at true a 1 member-1 e rows c)))
+pub union-left-1 : (a b : ℕ) → a ≡ 1 → Shortens Union a b (Some a)
+union-left-1 a b e = (inl refl, λ rows c. at true a 1 member-1 e rows c ∙ ap (λ v. v || member rows b c) (sym (at true a 1 member-1 e rows c)))
 
-pub either-right-1 : (a b : ℕ) → b ≡ 1 → Shortens Union a b (Some b)
-either-right-1 a b e = (inr refl, λ rows c. at true b 1 member-1 e rows c ∙ or-true (member rows a c) ∙ ap (λ v. member rows a c || v) (sym (at true b 1 member-1 e rows c)))
+pub union-right-1 : (a b : ℕ) → b ≡ 1 → Shortens Union a b (Some b)
+union-right-1 a b e = (inr refl, λ rows c. at true b 1 member-1 e rows c ∙ or-true (member rows a c) ∙ ap (λ v. member rows a c || v) (sym (at true b 1 member-1 e rows c)))
 
-pub both-left-0 : (a b : ℕ) → a ≡ 0 → Shortens Intersection a b (Some a)
-both-left-0 a b e = (inl refl, λ rows c. at false a 0 member-0 e rows c ∙ ap (λ v. v && member rows b c) (sym (at false a 0 member-0 e rows c)))
+pub meet-left-0 : (a b : ℕ) → a ≡ 0 → Shortens Intersection a b (Some a)
+meet-left-0 a b e = (inl refl, λ rows c. at false a 0 member-0 e rows c ∙ ap (λ v. v && member rows b c) (sym (at false a 0 member-0 e rows c)))
 
-pub both-right-0 : (a b : ℕ) → b ≡ 0 → Shortens Intersection a b (Some b)
-both-right-0 a b e = (inr refl, λ rows c. at false b 0 member-0 e rows c ∙ and-false (member rows a c) ∙ ap (λ v. member rows a c && v) (sym (at false b 0 member-0 e rows c)))
+pub meet-right-0 : (a b : ℕ) → b ≡ 0 → Shortens Intersection a b (Some b)
+meet-right-0 a b e = (inr refl, λ rows c. at false b 0 member-0 e rows c ∙ and-false (member rows a c) ∙ ap (λ v. member rows a c && v) (sym (at false b 0 member-0 e rows c)))
 
-pub both-left-1 : (a b : ℕ) → a ≡ 1 → Shortens Intersection a b (Some b)
-both-left-1 a b e = (inr refl, λ rows c. ap (λ v. v && member rows b c) (sym (at true a 1 member-1 e rows c)))
+pub meet-left-1 : (a b : ℕ) → a ≡ 1 → Shortens Intersection a b (Some b)
+meet-left-1 a b e = (inr refl, λ rows c. ap (λ v. v && member rows b c) (sym (at true a 1 member-1 e rows c)))
 
-pub both-right-1 : (a b : ℕ) → b ≡ 1 → Shortens Intersection a b (Some a)
-both-right-1 a b e = (inl refl, λ rows c. and-true (member rows a c) ∙ ap (λ v. member rows a c && v) (sym (at true b 1 member-1 e rows c)))
+pub meet-right-1 : (a b : ℕ) → b ≡ 1 → Shortens Intersection a b (Some a)
+meet-right-1 a b e = (inl refl, λ rows c. and-true (member rows a c) ∙ ap (λ v. member rows a c && v) (sym (at true b 1 member-1 e rows c)))
 
 pub position-row : (rows : List Row) (n : ℕ) → 2 ≤ n → position-of rows n ≡ row-at rows (n - 2) .position
 position-row rows n le = let e : n ≡ suc (suc (n - 2)) = omega arith in ap (position-of rows) e

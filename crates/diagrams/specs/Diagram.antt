@@ -1,9 +1,28 @@
 -- The rows of a book, what reading them says, the properties that always hold of them, and the rows of a set of choices.
+-- The numbers 0 and 1 stand for no choice and all choices; row r has the number r + 2.
+--
+--   blank         the row of zeros
+--   row-at        the row of number r + 2
+--   position-of   the position that a number asks for first; 16 for 0 and 1
+--   walk          what a walk from a number says, over the positions that pass a test
+--   member        whether a choice belongs to a number
+--   Ordered       a row whose children differ and are held numbers with a higher position
+--   put-position  a choice with one position chosen or not
+--   mixed         a choice with the positions below p of one choice and the others of another
+--   Sound         what always holds of the rows in use
+--   Canonical-rows  held numbers that read alike are equal
+--   Choices       a set of choices, as a test
+--   remainder     what a set leaves over the positions from p on, where those below p are fixed (a word of our own)
+--   Depends       a position makes a difference to a set
+--   Part          a row of sets: a position and a remainder over it
+--   Row-of        a row of a set: a remainder of it that depends on its position
+--   part-at       the row of number r + 2 as a row of sets
+--   In-use        it is one of the rows in use
 use mathlib.Core.Path.{_≡_}
 use mathlib.Core.Logic.{_≢_}
 use mathlib.Core.List.{List}
 use mathlib.Core.Bool.{Bool, true, false, cond}
-use Prim.Native.Nat.{ℕ, zero, suc, _+_, _^_, _≤_, _<_, min}
+use Prim.Native.Nat.{ℕ, zero, suc, _+_, _*_, _^_, _≤_, _<_, min}
 use lib.ListN.{length, getD}
 use Rattle.diagrams.specs.declared.Row.{Row}
 use lib.Dec.{eqb, ltb}
@@ -11,6 +30,10 @@ use Rattle.theory.specs.Rounds.{bit, choice-of}
 
 abbrev pub blank : Row
 blank = record { position = 0; without = 0; with = 0 }
+
+-- the hash of a row, by which an index finds it
+abbrev pub row-hash : Row → ℕ
+row-hash r = r .without * 3 + r .with * 613 + r .position * 1021
 
 -- the row of number r + 2
 abbrev pub row-at : List Row → ℕ → Row
@@ -59,10 +82,9 @@ pub record Sound (rows : List Row) (count : ℕ) : Type 0 where
   -- adding a position to a choice never takes it out of a set of the book
   pub growing : (n c k : ℕ) → n < count + 2 → k < 16 → member rows n c ≡ true → member rows n (put-position k true c) ≡ true
 
--- two numbers that the book holds and to which the same choices belong are one
-abbrev pub Equal-sets-one-number : Type 0
-Equal-sets-one-number = (rows : List Row) (count : ℕ) → Sound rows count → (a b : ℕ) → a < count + 2 → b < count + 2
-    → ((c : ℕ) → c < 2 ^ 16 → member rows a c ≡ member rows b c) → a ≡ b
+-- two held numbers to which the same choices belong are one
+abbrev pub Canonical-rows : List Row → ℕ → Type 0
+Canonical-rows rows count = (a b : ℕ) → a < count + 2 → b < count + 2 → ((c : ℕ) → c < 2 ^ 16 → member rows a c ≡ member rows b c) → a ≡ b
 
 -- a set of choices, by a test
 abbrev pub Choices : Type 0

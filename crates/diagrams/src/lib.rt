@@ -1,5 +1,4 @@
-ghost use mathlib.Core.Path.{_≡_};
-ghost use Prim.Native.Nat.{_+_, _*_};
+ghost use Rattle.diagrams.specs.Diagram.{row-hash};
 
 // A row of a decision diagram: at a position, the numbers of the set's halves without and with it.
 #[derive(Clone, Copy)]
@@ -21,7 +20,7 @@ pub enum Operation {
 pub struct NoRoom;
 
 pub impl register::Row for Row as DiagramRow {
-    ghost hash = { λ r. r .without * 3 + r .with * 613 + r .position * 1021 };
+    ghost hash = { row-hash };
 
     fn matches(self, other: Row) -> bool {
         self.position == other.position && self.without == other.without && self.with == other.with

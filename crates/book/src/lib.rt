@@ -1,0 +1,5 @@
+mod apply;
+mod faults;
+mod scratch;
+
+pub use faults::BookFault;
