@@ -1,2 +1,3 @@
 pub mod Recalling
 pub mod PutRows
+pub mod Holds

@@ -3,8 +3,7 @@
 --   book-fault-number  why a join or a reading was refused
 use Prim.Native.Nat.{ℕ}
 use Rattle.book.specs.declared.faults.BookFault.{BookFault}
-use Rattle.book.specs.declared.faults.BookFault.the-variants.{Full, NotHeld}
+use Rattle.book.specs.declared.faults.BookFault.the-variants.{NotHeld}
 
 abbrev pub book-fault-number : BookFault → ℕ
-book-fault-number Full = 13
 book-fault-number NotHeld = 14

@@ -1,3 +1,5 @@
 pub mod Scratch
 pub mod Faults
 pub mod Calls
+pub mod Questions
+pub mod Work

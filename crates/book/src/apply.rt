@@ -116,7 +116,7 @@ fn split(register: &Register<'_, Row>, a: u16, b: u16) -> Halved
 
 // The number of the set whose halves at a position are given: the halves' own where they are one, else that of their row,
 // which is put behind the rows in use where it is new.
-fn make(
+pub fn make(
     register: &mut Register<'_, Row>,
     index: &mut Index<'_>,
     position: u8,

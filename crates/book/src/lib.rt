@@ -1,8 +1,12 @@
 mod apply;
 mod book;
 mod calls;
+mod checks;
 mod faults;
+mod gather;
 mod scratch;
+mod work;
 
 pub use book::Book;
 pub use faults::BookFault;
+pub use faults::QuestionFault;

@@ -13,3 +13,4 @@ pub mod Applied
 pub mod Clearing
 pub mod Leaves
 pub mod Following
+pub mod Positions

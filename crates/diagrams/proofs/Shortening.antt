@@ -37,11 +37,11 @@ and-false : (x : Bool) → false ≡ (x && false)
 and-false true = refl
 and-false false = refl
 
-member-0 : (rows : List Row) (c : ℕ) → member rows 0 c ≡ false
+pub member-0 : (rows : List Row) (c : ℕ) → member rows 0 c ≡ false
 unfolding member
 member-0 rows c = refl
 
-member-1 : (rows : List Row) (c : ℕ) → member rows 1 c ≡ true
+pub member-1 : (rows : List Row) (c : ℕ) → member rows 1 c ≡ true
 unfolding member
 member-1 rows c = refl
 
