@@ -5,7 +5,8 @@ use mathlib.Core.Logic.{_⊎_, inl, inr, ⊎-elim, _≢_}
 use mathlib.Core.Bool.{Bool, true, false, _&&_, _||_}
 use Prim.Native.Nat.{ℕ, _+_, _≤_, _<_, min, max}
 use native.Mathlib.Omega.{arith}
-use lib.ListN.{length, getD, set}
+use lib.ListN.{length, getD, set, replicate, getD-replicate, length-replicate}
+use Rattle.std.proofs.shelf.Lists.{getD-past}
 use lib.Seq.{getD-set-same, getD-set-other}
 use Rattle.std.proofs.shelf.Tests.{cases-eq, cases-lt}
 use Rattle.diagrams.specs.declared.Row.{Row}
@@ -13,7 +14,7 @@ use Rattle.diagrams.specs.declared.Operation.{Operation}
 use Rattle.diagrams.specs.declared.Operation.the-variants.{Union, Intersection}
 use Rattle.register.specs.Chains.{Indexed}
 use Rattle.diagrams.specs.Diagram.{Sound, row-at, row-hash, member}
-use Rattle.diagrams.specs.Books.{together, union-or-intersection}
+use Rattle.diagrams.specs.Books.{together, union-or-intersection, Kept-book, capacity}
 use Rattle.diagrams.specs.Making.{Adds}
 use Rattle.diagrams.specs.Applying.{Extends}
 use Rattle.diagrams.proofs.Kept.{member-kept}
@@ -123,3 +124,20 @@ ready-remembered op {rows} {count} {rows′} {count′} {heads} {next} {unions} 
 pub table-right : (op : Operation) (rows : List Row) (count : ℕ) (heads next : List ℕ) (unions intersections : List Entry) → Ready rows count heads next unions intersections → Remembers op rows count (table-of op unions intersections)
 table-right Union rows count heads next unions intersections r = r .unions-right
 table-right Intersection rows count heads next unions intersections r = r .intersections-right
+
+-- tables without entries
+empty-at : (size k : ℕ) → entry-at (replicate size (entry 0 0 0)) k ≡ entry 0 0 0
+empty-at size k = ⊎-elim (getD-replicate size k (entry 0 0 0) (entry 0 0 0)) (λ le. getD-past (replicate size (entry 0 0 0)) k (entry 0 0 0) (omega (arith, le, length-replicate size (entry 0 0 0)))) (cases-lt k size)
+
+remembers-nothing : (op : Operation) (rows : List Row) (count size : ℕ) → Remembers op rows count (replicate size (entry 0 0 0))
+remembers-nothing op rows count size k two = absurd (omega (arith, subst (λ (z : Entry). 2 ≤ z .left) (empty-at size k) two))
+
+pub ready-at-first : {rows : List Row} {count : ℕ} {heads next : List ℕ} (size : ℕ) → Kept-book rows count → Indexed row-hash rows count heads next → capacity rows ≤ length next
+    → Ready rows count heads next (replicate size (entry 0 0 0)) (replicate size (entry 0 0 0))
+ready-at-first {rows} {count} size kept x room = record {
+  kept = kept;
+  indexed = x;
+  room = room;
+  unions-right = remembers-nothing Union rows count size;
+  intersections-right = remembers-nothing Intersection rows count size;
+}

@@ -4,6 +4,7 @@
 --   all-facts              every number of a list is a fact
 --   first-fault            the first check that fails, of those that come before the rows
 --   work-after             the work slice: untouched where a check fails, else zero in front
+--   Asked                  what a question leaves of a book
 --   slot                   where a fact or the contradiction stands in each half of a work slice
 --   Holding                the numbers in the front part of a work slice are held by a book
 use mathlib.Core.Path.{_≡_}
@@ -14,8 +15,11 @@ use lib.Dec.{ltb}
 use lib.ListN.{length, getD, drop, replicate}
 use Rattle.std.specs.declared.option.Option.{Option}
 use Rattle.std.specs.declared.option.Option.the-variants.{Some, None}
+use Rattle.std.specs.declared.result.Result.{Result}
+use Rattle.std.specs.declared.result.Result.the-variants.{Ok, Err}
 use Rattle.theory.specs.declared.Conclusion.{Conclusion}
 use Rattle.theory.specs.declared.Conclusion.the-variants.{Fact, Contradiction}
+use Rattle.diagrams.specs.Books.{Book, Keeps, Held}
 use Rattle.book.specs.declared.faults.QuestionFault.{QuestionFault}
 use Rattle.book.specs.declared.faults.QuestionFault.the-variants.{TooManyPredicates, TooManyGoals, NoFact, ShortWork, Full}
 
@@ -49,3 +53,10 @@ Holding numbers used count = (k : ℕ) → k < used → getD numbers k 0 < count
 abbrev pub slot : ℕ → Conclusion → ℕ
 slot facts (Fact f) = f
 slot facts Contradiction = facts
+
+-- What a question leaves of the book, before anything is said of its answer: nothing moves where a check fails; else rows
+-- in use stay and only rows of the book's own are added, and all of them are given back where they do not fit.
+abbrev pub Asked : Option QuestionFault → Book → Book → Result (record { 0 : ℕ; 1 : ℕ }) QuestionFault → Type 0
+Asked (Some fault) b b′ r = (r ≡ Err fault) × (b′ ≡ b)
+Asked None b b′ (Ok p) = Keeps b b′ × (b .count ≤ b′ .count) × Held b′ (p .0)
+Asked None b b′ (Err fault) = (fault ≡ Full) × Keeps b b′ × (b′ .count ≡ b .count)

@@ -4,6 +4,8 @@ mod calls;
 mod checks;
 mod faults;
 mod gather;
+mod questions;
+mod saturation;
 mod scratch;
 mod work;
 

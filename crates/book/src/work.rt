@@ -12,7 +12,8 @@ pub struct Work<'a> {
     ghost within: { used ≤ length (now numbers) },
 }
 
-fn wipe(numbers: &mut [u32], used: usize)
+// Zeroes the numbers in front.
+pub fn wipe(numbers: &mut [u32], used: usize)
     requires { ⌜ used ≤ length (now numbers) ⌝ }
     ensures zero { λ _. ⌜ ZeroBelow (now (numbers .exit)) used ⌝ }
     ensures rest { λ _. ⌜ SameFrom used (now (numbers .entry)) (now (numbers .exit)) ⌝ }

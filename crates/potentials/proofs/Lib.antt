@@ -1,0 +1,12 @@
+pub mod Sets
+pub mod Walks
+pub mod Potentials
+pub mod Times
+pub mod Values
+pub mod Numbers
+pub mod Rules
+pub mod Bounds
+pub mod Truths
+pub mod Soundness
+pub mod Completeness
+pub mod Laws

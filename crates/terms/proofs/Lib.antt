@@ -1,0 +1,3 @@
+mod Growing
+mod Reading
+pub mod Meaning

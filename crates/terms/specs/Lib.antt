@@ -1,0 +1,3 @@
+pub mod Faults
+pub mod Adding
+pub mod Facts
