@@ -4,3 +4,4 @@ pub mod Holds
 pub mod Carries
 pub mod Opposites
 pub mod Passing
+pub mod Pairs

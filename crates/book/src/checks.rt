@@ -18,7 +18,13 @@ fn are_facts(facts: u16, numbers: &[u16]) -> bool
 }
 
 // The first check that fails, of those before the rows.
-pub fn first_fault(facts: u16, limit: usize, predicates: &[u16], goals: &[u16], work: usize) -> Option<QuestionFault>
+pub fn first_fault(
+    facts: u16,
+    limit: usize,
+    predicates: &[u16],
+    goals: &[u16],
+    work: usize,
+) -> Option<QuestionFault>
     ensures { λ r. ⌜ r ≡ first-fault facts limit (now (predicates .entry)) (now (goals .entry)) work ⌝ }
 {
     if predicates.len() > limit {

@@ -21,7 +21,14 @@ use theory::Conclusion;
 use theory::Rule;
 
 // Unites what a slot has gathered with the set of a number.
-pub fn gather(register: &mut Register<'_, Row>, index: &mut Index<'_>, tables: &mut Tables<'_>, work: &mut Work<'_>, slot: usize, number: u16) -> Result<(), NoRoom>
+pub fn gather(
+    register: &mut Register<'_, Row>,
+    index: &mut Index<'_>,
+    tables: &mut Tables<'_>,
+    work: &mut Work<'_>,
+    slot: usize,
+    number: u16,
+) -> Result<(), NoRoom>
     requires ready { ⌜ Ready (now (now register .rows)) (now register .count) (now (now index .heads)) (now (now index .next)) (now (now tables .unions)) (now (now tables .intersections)) ⌝ }
     requires holding { ⌜ Holding (now (now work .numbers)) (now work .used) (now register .count) ⌝ }
     requires slot { ⌜ slot < now work .used ⌝ }
@@ -42,7 +49,14 @@ pub fn gather(register: &mut Register<'_, Row>, index: &mut Index<'_>, tables: &
 }
 
 // The choices that have a position, united with what its predicate has gathered.
-pub fn gather_position(register: &mut Register<'_, Row>, index: &mut Index<'_>, tables: &mut Tables<'_>, work: &mut Work<'_>, position: u8, fact: u16) -> Result<(), NoRoom>
+pub fn gather_position(
+    register: &mut Register<'_, Row>,
+    index: &mut Index<'_>,
+    tables: &mut Tables<'_>,
+    work: &mut Work<'_>,
+    position: u8,
+    fact: u16,
+) -> Result<(), NoRoom>
     requires ready { ⌜ Ready (now (now register .rows)) (now register .count) (now (now index .heads)) (now (now index .next)) (now (now tables .unions)) (now (now tables .intersections)) ⌝ }
     requires holding { ⌜ Holding (now (now work .numbers)) (now work .used) (now register .count) ⌝ }
     requires position { ⌜ position < 16 ⌝ }
@@ -61,7 +75,13 @@ pub fn gather_position(register: &mut Register<'_, Row>, index: &mut Index<'_>, 
 }
 
 // The intersection of what a rule's premises had before the round: all choices where there is none.
-fn premises(register: &mut Register<'_, Row>, index: &mut Index<'_>, tables: &mut Tables<'_>, work: &Work<'_>, rule: Rule) -> Result<u16, NoRoom>
+fn premises(
+    register: &mut Register<'_, Row>,
+    index: &mut Index<'_>,
+    tables: &mut Tables<'_>,
+    work: &Work<'_>,
+    rule: Rule,
+) -> Result<u16, NoRoom>
     requires ready { ⌜ Ready (now (now register .rows)) (now register .count) (now (now index .heads)) (now (now index .next)) (now (now tables .unions)) (now (now tables .intersections)) ⌝ }
     requires holding { ⌜ Holding (now (now work .numbers)) (now work .used) (now register .count) ⌝ }
     requires names { ⌜ Names (now work .used) rule ⌝ }
@@ -78,7 +98,14 @@ fn premises(register: &mut Register<'_, Row>, index: &mut Index<'_>, tables: &mu
         Rule::Both(a, b, _) => {
             let left = work.numbers[a as usize] as u16;
             let right = work.numbers[b as usize] as u16;
-            apply(register, index, tables, Operation::Intersection, left, right)
+            apply(
+                register,
+                index,
+                tables,
+                Operation::Intersection,
+                left,
+                right,
+            )
         }
     }
 }
@@ -99,7 +126,14 @@ fn slot_of(facts: u16, rule: Rule) -> usize
 }
 
 // One place: what the premises of its rule have together is united with what its conclusion has gathered.
-pub fn derive(register: &mut Register<'_, Row>, index: &mut Index<'_>, tables: &mut Tables<'_>, work: &mut Work<'_>, facts: u16, rule: Rule) -> Result<(), NoRoom>
+pub fn derive(
+    register: &mut Register<'_, Row>,
+    index: &mut Index<'_>,
+    tables: &mut Tables<'_>,
+    work: &mut Work<'_>,
+    facts: u16,
+    rule: Rule,
+) -> Result<(), NoRoom>
     requires ready { ⌜ Ready (now (now register .rows)) (now register .count) (now (now index .heads)) (now (now index .next)) (now (now tables .unions)) (now (now tables .intersections)) ⌝ }
     requires holding { ⌜ Holding (now (now work .numbers)) (now work .used) (now register .count) ⌝ }
     requires used { ⌜ now work .used ≡ 2 * (facts + 1) ⌝ }

@@ -1,9 +1,11 @@
 ghost use mathlib.Core.Path.{_≡_};
 ghost use Prim.Native.Nat.{ℕ, _+_, _*_, _<_, _≤_};
-ghost use lib.ListN.{length, getD};
+ghost use lib.ListN.{length, getD, take};
 ghost use denote.Ref.{now, name};
 ghost use Rattle.std.specs.Results.{Cases as ByOk};
 ghost use Rattle.std.specs.declared.option.Option.the-variants.{None};
+ghost use Rattle.theory.specs.Abstraction.{with-opposites};
+ghost use Rattle.theory.specs.Means.{meaning};
 ghost use Rattle.diagrams.specs.Applying.{Extends};
 ghost use Rattle.diagrams.specs.Books.{Kept-book, Keeps, book-of, capacity};
 ghost use Rattle.book.specs.Work.{ZeroBelow, SameFrom};
@@ -21,7 +23,13 @@ use register::Register;
 use theory::Theory;
 
 // Chooses the sizes of a question's tables: light ones for few places and predicates, and an index as large as the book.
-fn sized<T: Theory>(theory: &T, register: &mut Register<'_, Row>, predicates: &[u16], goals: &[u16], numbers: &mut [u32]) -> Result<(u16, u16), NoRoom>
+fn sized<T: Theory>(
+    theory: &T,
+    register: &mut Register<'_, Row>,
+    predicates: &[u16],
+    goals: &[u16],
+    numbers: &mut [u32],
+) -> Result<(u16, u16), NoRoom>
     requires kept { ⌜ Kept-book (now (now register .rows)) (now register .count) ⌝ }
     requires used { ⌜ 2 * (T·Theory .facts (now theory) + 1) ≤ length (now numbers) ⌝ }
     requires few { ⌜ length (now predicates) ≤ 16 ⌝ }
@@ -43,7 +51,13 @@ fn sized<T: Theory>(theory: &T, register: &mut Register<'_, Row>, predicates: &[
 }
 
 // A question that has passed its checks. Rows that do not fit are all given back.
-fn answer<T: Theory>(theory: &T, register: &mut Register<'_, Row>, predicates: &[u16], goals: &[u16], numbers: &mut [u32]) -> Result<(u16, u16), QuestionFault>
+fn answer<T: Theory>(
+    theory: &T,
+    register: &mut Register<'_, Row>,
+    predicates: &[u16],
+    goals: &[u16],
+    numbers: &mut [u32],
+) -> Result<(u16, u16), QuestionFault>
     requires kept { ⌜ Kept-book (now (now register .rows)) (now register .count) ⌝ }
     requires used { ⌜ 2 * (T·Theory .facts (now theory) + 1) ≤ length (now numbers) ⌝ }
     requires few { ⌜ length (now predicates) ≤ 16 ⌝ }
@@ -67,7 +81,13 @@ fn answer<T: Theory>(theory: &T, register: &mut Register<'_, Row>, predicates: &
 impl Book<'_> {
     // Which choices of the predicates are impossible together with every goal being false: the number of their set, and
     // the most rounds that one of the choices gained in.
-    pub fn question<T: Theory>(&mut self, theory: &T, predicates: &[u16], goals: &[u16], work: &mut [u32]) -> Result<(u16, u16), QuestionFault>
+    pub fn question<T: Theory>(
+        &mut self,
+        theory: &T,
+        predicates: &[u16],
+        goals: &[u16],
+        work: &mut [u32],
+    ) -> Result<(u16, u16), QuestionFault>
         ensures held { λ _. ⌜ name (now (self .exit) .lent .rows) ≡ name (now (self .entry) .lent .rows) ⌝ }
         ensures asked { λ r. ⌜ Asked (first-fault (T·Theory .facts (now (theory .entry))) 16 (now (predicates .entry)) (now (goals .entry)) (length (now (work .entry)))) (book-of (now (now (self .entry) .lent .rows)) (now (self .entry) .lent .count)) (book-of (now (now (self .exit) .lent .rows)) (now (self .exit) .lent .count)) r ⌝ }
         ensures work { λ _. ⌜ now (work .exit) ≡ work-after (T·Theory .facts (now (theory .entry))) (first-fault (T·Theory .facts (now (theory .entry))) 16 (now (predicates .entry)) (now (goals .entry)) (length (now (work .entry)))) (now (work .entry)) ⌝ }
@@ -76,5 +96,46 @@ impl Book<'_> {
             return Err(fault);
         }
         answer(theory, &mut self.lent, predicates, goals, work)
+    }
+}
+
+// Each predicate at an even position, and its opposite behind it.
+fn with_opposites<T: Theory>(theory: &T, predicates: &[u16]) -> [u16; 16]
+    requires { ⌜ length (now predicates) ≤ 8 ⌝ }
+    ensures { λ r. ⌜ take (2 * length (now (predicates .entry))) r ≡ with-opposites (meaning T·Theory (now (theory .entry))) (now (predicates .entry)) ⌝ }
+{
+    let mut pairs = [0u16; 16];
+    for (k, predicate) in predicates.iter().enumerate() {
+        pairs[2 * k] = *predicate;
+        pairs[2 * k + 1] = theory.opposite(*predicate).unwrap_or(0);
+    }
+    pairs
+}
+
+impl Book<'_> {
+    // The question that has each predicate at an even position and its opposite behind it. Its answer has a full case,
+    // which chooses one of each pair, exactly when the case implies that some goal is true.
+    pub fn abstraction<T: Theory>(
+        &mut self,
+        theory: &T,
+        predicates: &[u16],
+        goals: &[u16],
+        work: &mut [u32],
+    ) -> Result<(u16, u16), QuestionFault>
+        ensures held { λ _. ⌜ name (now (self .exit) .lent .rows) ≡ name (now (self .entry) .lent .rows) ⌝ }
+        ensures asked { λ r. ⌜ Asked (first-fault (T·Theory .facts (now (theory .entry))) 8 (now (predicates .entry)) (now (goals .entry)) (length (now (work .entry)))) (book-of (now (now (self .entry) .lent .rows)) (now (self .entry) .lent .count)) (book-of (now (now (self .exit) .lent .rows)) (now (self .exit) .lent .count)) r ⌝ }
+        ensures work { λ _. ⌜ now (work .exit) ≡ work-after (T·Theory .facts (now (theory .entry))) (first-fault (T·Theory .facts (now (theory .entry))) 8 (now (predicates .entry)) (now (goals .entry)) (length (now (work .entry)))) (now (work .entry)) ⌝ }
+    {
+        if let Some(fault) = first_fault(theory.facts(), 8, predicates, goals, work.len()) {
+            return Err(fault);
+        }
+        let pairs = with_opposites(theory, predicates);
+        answer(
+            theory,
+            &mut self.lent,
+            &pairs[0..2 * predicates.len()],
+            goals,
+            work,
+        )
     }
 }

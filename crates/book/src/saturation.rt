@@ -23,7 +23,13 @@ use register::Register;
 use theory::Theory;
 
 // Each predicate's fact gathers the choices that have its position.
-fn start_predicates(register: &mut Register<'_, Row>, index: &mut Index<'_>, tables: &mut Tables<'_>, work: &mut Work<'_>, predicates: &[u16]) -> Result<(), NoRoom>
+fn start_predicates(
+    register: &mut Register<'_, Row>,
+    index: &mut Index<'_>,
+    tables: &mut Tables<'_>,
+    work: &mut Work<'_>,
+    predicates: &[u16],
+) -> Result<(), NoRoom>
     requires ready { ⌜ Ready (now (now register .rows)) (now register .count) (now (now index .heads)) (now (now index .next)) (now (now tables .unions)) (now (now tables .intersections)) ⌝ }
     requires holding { ⌜ Holding (now (now work .numbers)) (now work .used) (now register .count) ⌝ }
     requires few { ⌜ length (now predicates) ≤ 16 ⌝ }
@@ -91,7 +97,14 @@ fn begin(work: &mut Work<'_>, facts: u16)
 }
 
 // One round: every place in its order.
-fn round<T: Theory>(theory: &T, register: &mut Register<'_, Row>, index: &mut Index<'_>, tables: &mut Tables<'_>, work: &mut Work<'_>, facts: u16) -> Result<(), NoRoom>
+fn round<T: Theory>(
+    theory: &T,
+    register: &mut Register<'_, Row>,
+    index: &mut Index<'_>,
+    tables: &mut Tables<'_>,
+    work: &mut Work<'_>,
+    facts: u16,
+) -> Result<(), NoRoom>
     requires ready { ⌜ Ready (now (now register .rows)) (now register .count) (now (now index .heads)) (now (now index .next)) (now (now tables .unions)) (now (now tables .intersections)) ⌝ }
     requires holding { ⌜ Holding (now (now work .numbers)) (now work .used) (now register .count) ⌝ }
     requires facts { ⌜ facts ≡ T·Theory .facts (now theory) ⌝ }
@@ -114,7 +127,14 @@ fn round<T: Theory>(theory: &T, register: &mut Register<'_, Row>, index: &mut In
 }
 
 // One round, and whether it has changed some set.
-fn next_round<T: Theory>(theory: &T, register: &mut Register<'_, Row>, index: &mut Index<'_>, tables: &mut Tables<'_>, work: &mut Work<'_>, facts: u16) -> Result<bool, NoRoom>
+fn next_round<T: Theory>(
+    theory: &T,
+    register: &mut Register<'_, Row>,
+    index: &mut Index<'_>,
+    tables: &mut Tables<'_>,
+    work: &mut Work<'_>,
+    facts: u16,
+) -> Result<bool, NoRoom>
     requires ready { ⌜ Ready (now (now register .rows)) (now register .count) (now (now index .heads)) (now (now index .next)) (now (now tables .unions)) (now (now tables .intersections)) ⌝ }
     requires holding { ⌜ Holding (now (now work .numbers)) (now work .used) (now register .count) ⌝ }
     requires facts { ⌜ facts ≡ T·Theory .facts (now theory) ⌝ }
@@ -133,7 +153,14 @@ fn next_round<T: Theory>(theory: &T, register: &mut Register<'_, Row>, index: &m
 }
 
 // Rounds up to the first that changes no set: the number of the contradiction's choices, and how many rounds gained.
-fn rounds<T: Theory>(theory: &T, register: &mut Register<'_, Row>, index: &mut Index<'_>, tables: &mut Tables<'_>, work: &mut Work<'_>, facts: u16) -> Result<(u16, u16), NoRoom>
+fn rounds<T: Theory>(
+    theory: &T,
+    register: &mut Register<'_, Row>,
+    index: &mut Index<'_>,
+    tables: &mut Tables<'_>,
+    work: &mut Work<'_>,
+    facts: u16,
+) -> Result<(u16, u16), NoRoom>
     requires ready { ⌜ Ready (now (now register .rows)) (now register .count) (now (now index .heads)) (now (now index .next)) (now (now tables .unions)) (now (now tables .intersections)) ⌝ }
     requires holding { ⌜ Holding (now (now work .numbers)) (now work .used) (now register .count) ⌝ }
     requires facts { ⌜ facts ≡ T·Theory .facts (now theory) ⌝ }
@@ -157,7 +184,15 @@ fn rounds<T: Theory>(theory: &T, register: &mut Register<'_, Row>, index: &mut I
 }
 
 // Start sets, then rounds.
-fn saturate<T: Theory>(theory: &T, register: &mut Register<'_, Row>, index: &mut Index<'_>, tables: &mut Tables<'_>, work: &mut Work<'_>, predicates: &[u16], goals: &[u16]) -> Result<(u16, u16), NoRoom>
+fn saturate<T: Theory>(
+    theory: &T,
+    register: &mut Register<'_, Row>,
+    index: &mut Index<'_>,
+    tables: &mut Tables<'_>,
+    work: &mut Work<'_>,
+    predicates: &[u16],
+    goals: &[u16],
+) -> Result<(u16, u16), NoRoom>
     requires ready { ⌜ Ready (now (now register .rows)) (now register .count) (now (now index .heads)) (now (now index .next)) (now (now tables .unions)) (now (now tables .intersections)) ⌝ }
     requires holding { ⌜ Holding (now (now work .numbers)) (now work .used) (now register .count) ⌝ }
     requires used { ⌜ now work .used ≡ 2 * (T·Theory .facts (now theory) + 1) ⌝ }
@@ -180,7 +215,13 @@ fn saturate<T: Theory>(theory: &T, register: &mut Register<'_, Row>, index: &mut
 
 // The tables of a question lie on the stack; their sizes are chosen by the caller, so that a small question does not pay
 // for the largest.
-pub fn within<T: Theory, const HEADS: usize, const ROWS: usize, const PAIRS: usize>(theory: &T, register: &mut Register<'_, Row>, predicates: &[u16], goals: &[u16], numbers: &mut [u32]) -> Result<(u16, u16), NoRoom>
+pub fn within<T: Theory, const HEADS: usize, const ROWS: usize, const PAIRS: usize>(
+    theory: &T,
+    register: &mut Register<'_, Row>,
+    predicates: &[u16],
+    goals: &[u16],
+    numbers: &mut [u32],
+) -> Result<(u16, u16), NoRoom>
     requires kept { ⌜ Kept-book (now (now register .rows)) (now register .count) ⌝ }
     requires heads { ⌜ 0 < HEADS ⌝ ∗ ⌜ HEADS ≤ 65536 ⌝ }
     requires few_rows { ⌜ ROWS ≤ 65536 ⌝ }
@@ -199,11 +240,25 @@ pub fn within<T: Theory, const HEADS: usize, const ROWS: usize, const PAIRS: usi
     let mut next = [0u16; ROWS];
     let mut unions = [EMPTY; PAIRS];
     let mut intersections = [EMPTY; PAIRS];
-    let mut index = Index { heads: &mut heads, next: &mut next };
-    let mut tables = Tables { unions: &mut unions, intersections: &mut intersections };
+    let mut index = Index {
+        heads: &mut heads,
+        next: &mut next,
+    };
+    let mut tables = Tables {
+        unions: &mut unions,
+        intersections: &mut intersections,
+    };
     register.link_rows(&mut index);
     let used = 2 * (theory.facts() as usize + 1);
     wipe(numbers, used);
     let mut work = Work { numbers, used };
-    saturate(theory, register, &mut index, &mut tables, &mut work, predicates, goals)
+    saturate(
+        theory,
+        register,
+        &mut index,
+        &mut tables,
+        &mut work,
+        predicates,
+        goals,
+    )
 }

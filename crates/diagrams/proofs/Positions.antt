@@ -37,9 +37,12 @@ module _ (rows : List Row) (count : ℕ) (sound : Sound rows count) (p : ℕ) (l
     higher-with = lt;
     without = λ c. member-0 rows c ∙ sym (bit-put-same p false c lt);
     with = λ c. member-1 rows c ∙ sym (bit-put-same p true c lt);
-    exact = λ x. (inl, ⊎-elim (λ u. u) (⊎-elim
-      (λ row. absurd (constant-rowless (half (λ c. bit c p) p false) false (λ c. bit-put-same p false c lt) x row))
-      (λ row. absurd (constant-rowless (half (λ c. bit c p) p true) true (λ c. bit-put-same p true c lt) x row))));
+    exact = λ x. (
+      inl,
+      ⊎-elim (λ u. u) (⊎-elim
+          (λ row. absurd (constant-rowless (half (λ c. bit c p) p false) false (λ c. bit-put-same p false c lt) x row))
+          (λ row. absurd (constant-rowless (half (λ c. bit c p) p true) true (λ c. bit-put-same p true c lt) x row))),
+    );
   }
 
   pub position-fit : Fit rows count p 0 1

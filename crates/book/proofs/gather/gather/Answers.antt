@@ -15,6 +15,6 @@ returns c =
       extends = e;
       ready = c .apply .ensures .ready;
       holding = holding-set (w .numbers .now) (w .used) (c .apply .last .register .count) (c .args .slot) (c .in-Continue-together .together) (omega arith) (c .in-Continue-together .ensures tt .applied .held)
-        (holding-later (w .numbers .now) (w .used) (c .args .register .now .count) (c .apply .last .register .count) (e .more) (c .pre .holding));
+          (holding-later (w .numbers .now) (w .used) (c .args .register .now .count) (c .apply .last .register .count) (e .more) (c .pre .holding));
       rest = rest-set (w .numbers .now) (w .used) (c .args .slot) (c .in-Continue-together .together) (c .pre .slot);
     }

@@ -12,6 +12,7 @@ loop-slot-again c =
     let s = c .loop-slot .inv in
     let i = c .args .facts + 1 + c .loop-slot .slot in
     let n = getD (w .numbers .now) (c .loop-slot .slot) 0 in
-    let lt : i < w .used = omega (arith, s .0 .used, c .pre .used) in
-    ( later-work _ w _ (s .0) refl refl (rest-set (w .numbers .now) (w .used) i n lt)
-    , λ count h. holding-set (w .numbers .now) (w .used) count i n (omega (arith, lt, w .within)) (s .1 count h (c .loop-slot .slot) (omega (arith, lt))) (s .1 count h) )
+    let lt : i < w .used = omega (arith, s .0 .used, c .pre .used) in (
+      later-work _ w _ (s .0) refl refl (rest-set (w .numbers .now) (w .used) i n lt),
+      λ count h. holding-set (w .numbers .now) (w .used) count i n (omega (arith, lt, w .within)) (s .1 count h (c .loop-slot .slot) (omega (arith, lt))) (s .1 count h),
+    )

@@ -13,6 +13,7 @@ loop-slot-again c =
     let i = c .loop-slot .slot in
     let j = c .args .facts + 1 + c .loop-slot .slot in
     let n = getD (w .numbers .now) j 0 in
-    let lt : j < w .used = omega (arith, s .0 .used, c .pre .used) in
-    ( later-work _ w _ (s .0) refl refl (rest-set (w .numbers .now) (w .used) i n (omega (arith, lt)))
-    , λ count h. holding-set (w .numbers .now) (w .used) count i n (omega (arith, lt, w .within)) (s .1 count h j lt) (s .1 count h) )
+    let lt : j < w .used = omega (arith, s .0 .used, c .pre .used) in (
+      later-work _ w _ (s .0) refl refl (rest-set (w .numbers .now) (w .used) i n (omega (arith, lt))),
+      λ count h. holding-set (w .numbers .now) (w .used) count i n (omega (arith, lt, w .within)) (s .1 count h j lt) (s .1 count h),
+    )

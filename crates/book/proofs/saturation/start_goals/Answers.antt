@@ -18,6 +18,7 @@ loop-goal-again g c =
     let s = c .loop-goal .inv in
     let o = c .in-Some .opposite in
     let below = opposite-below (g .T·Theory) (c .args .theory .now) _ o (sym (c .opposite .ensures) ∙ c .in-Some .is) in
-    let lt : o < w .used = omega (arith, below, c .pre .used, s .0 .used) in
-    ( later-work _ w _ (s .0) refl refl (rest-set (w .numbers .now) (w .used) o 1 lt)
-    , λ count h. holding-set (w .numbers .now) (w .used) count o 1 (omega (arith, lt, w .within)) (omega arith) (s .1 count h) )
+    let lt : o < w .used = omega (arith, below, c .pre .used, s .0 .used) in (
+      later-work _ w _ (s .0) refl refl (rest-set (w .numbers .now) (w .used) o 1 lt),
+      λ count h. holding-set (w .numbers .now) (w .used) count o 1 (omega (arith, lt, w .within)) (omega arith) (s .1 count h),
+    )

@@ -7,10 +7,11 @@ use lib.Seq.{getD-set-same, getD-set-other}
 use Rattle.book.proofs.work.wipe.Needs as need
 
 pub loop-i-again : need.loop-i-again
-loop-i-again c =
-    ( below-more _ _
-        (λ k h. let ne : k ≢ c .loop-i .i = omega arith in rw getD-set-other (c .loop-i .inv .0 k h))
-        (let lt : c .loop-i .i < length (c .loop-i .numbers) = omega arith in rw getD-set-same)
-    , λ k h. let ne : k ≢ c .loop-i .i = omega arith in
-             let le : c .loop-i .i ≤ k = omega arith in
-             rw getD-set-other (c .loop-i .inv .1 k le))
+loop-i-again c = (
+  below-more _ _
+      (λ k h. let ne : k ≢ c .loop-i .i = omega arith in rw getD-set-other (c .loop-i .inv .0 k h))
+      (let lt : c .loop-i .i < length (c .loop-i .numbers) = omega arith in rw getD-set-same),
+  λ k h. let ne : k ≢ c .loop-i .i = omega arith in
+      let le : c .loop-i .i ≤ k = omega arith in
+      rw getD-set-other (c .loop-i .inv .1 k le),
+)
