@@ -1,0 +1,7 @@
+mod answers;
+mod faults;
+mod session;
+mod stated;
+
+pub use faults::Fault;
+pub use session::Session;
