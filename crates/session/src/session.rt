@@ -47,15 +47,35 @@ enum Asking {
 
 impl Session {
     pub fn new() -> Session {
-        Session { pending: Pending::new(), answers: [0; MOST_ANSWERS], answer_count: 0 }
+        Session {
+            pending: Pending::new(),
+            answers: [0; MOST_ANSWERS],
+            answer_count: 0,
+        }
     }
 
     // One record: nothing to print for a term, a predicate or a goal; the answer's line for a question or an abstraction.
     // A refused record leaves the pending ones.
-    pub fn take(&mut self, table: &mut TermTable<'_>, book: &mut Book<'_>, work: &mut [u32], bytes: &[u8]) -> Result<Option<Line>, Fault> {
+    pub fn take(
+        &mut self,
+        table: &mut TermTable<'_>,
+        book: &mut Book<'_>,
+        work: &mut [u32],
+        bytes: &[u8],
+    ) -> Result<Option<Line>, Fault> {
         match read(bytes)? {
-            Record::Term { arity, symbol, left, right } => {
-                table.add(Term { symbol, arity, left, right })?;
+            Record::Term {
+                arity,
+                symbol,
+                left,
+                right,
+            } => {
+                table.add(Term {
+                    symbol,
+                    arity,
+                    left,
+                    right,
+                })?;
                 Ok(None)
             }
             Record::Predicate(statement) => {
@@ -66,18 +86,35 @@ impl Session {
                 self.pending.add_goal(statement)?;
                 Ok(None)
             }
-            Record::Question(name) => Ok(Some(self.ask(table, book, work, name, Asking::Question)?)),
-            Record::Abstraction(name) => Ok(Some(self.ask(table, book, work, name, Asking::Abstraction)?)),
+            Record::Question(name) => Ok(Some(
+                self.ask(table, book, work, name, Asking::Question)?,
+            )),
+            Record::Abstraction(name) => Ok(Some(
+                self.ask(table, book, work, name, Asking::Abstraction)?,
+            )),
         }
     }
 
-    fn ask(&mut self, table: &TermTable<'_>, book: &mut Book<'_>, work: &mut [u32], name: TheoryName, asking: Asking) -> Result<Line, Fault> {
+    fn ask(
+        &mut self,
+        table: &TermTable<'_>,
+        book: &mut Book<'_>,
+        work: &mut [u32],
+        name: TheoryName,
+        asking: Asking,
+    ) -> Result<Line, Fault> {
         if self.answer_count >= MOST_ANSWERS {
             return Err(Fault::Record(RecordFault::TooManyAnswers));
         }
         let (number, positions) = match name {
             TheoryName::Terms => asked(&Equality::new(table), &self.pending, book, work, asking)?,
-            TheoryName::Differences(variables) => asked(&Differences::new(variables)?, &self.pending, book, work, asking)?,
+            TheoryName::Differences(variables) => asked(
+                &Differences::new(variables)?,
+                &self.pending,
+                book,
+                work,
+                asking,
+            )?,
         };
         Ok(self.note(book, number, positions))
     }
@@ -93,12 +130,22 @@ impl Session {
             self.answer_count = at + 1;
         }
         let first = first_equal(&self.answers[0..at], number);
-        answer_line(at as u16 + 1, count(book, number, positions), first as u16 + 1)
+        answer_line(
+            at as u16 + 1,
+            count(book, number, positions),
+            first as u16 + 1,
+        )
     }
 }
 
 // The number of the pending question's answer, and how many positions it has.
-fn asked<T: Stated>(theory: &T, pending: &Pending, book: &mut Book<'_>, work: &mut [u32], asking: Asking) -> Result<(u16, u32), Fault>
+fn asked<T: Stated>(
+    theory: &T,
+    pending: &Pending,
+    book: &mut Book<'_>,
+    work: &mut [u32],
+    asking: Asking,
+) -> Result<(u16, u32), Fault>
     ensures { λ r. ⌜ ByOk r (λ p. p .1 ≤ 16) (λ _. Unit {0}) ⌝ }
 {
     let predicates = predicates_of(theory, pending)?;
