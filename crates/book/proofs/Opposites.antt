@@ -17,6 +17,6 @@ none-some a e = let z : _≡_ {A = ℕ} 0 1 = cc in omega arith
 -- an opposite is a fact
 pub opposite-below : {X : Type 0} (g : Ghosts X) (t : X) (f o : ℕ) → g .opposite t f ≡ Some o → o < g .facts t
 opposite-below g t f o e = ⊎-elim
-    (λ lt. let h = g .bounded t .has-opposite f lt in let same : h .0 ≡ o = same-number (h .0) o (sym (h .1) ∙ e) in omega (arith, same, h .2))
-    (λ le. absurd (none-some o (sym (g .bounded t .no-opposite f le) ∙ e)))
+    (λ lt. let h = g .lawful t .bounds .has-opposite f lt in let same : h .0 ≡ o = same-number (h .0) o (sym (h .1) ∙ e) in omega (arith, same, h .2))
+    (λ le. absurd (none-some o (sym (g .lawful t .bounds .no-opposite f le) ∙ e)))
     (cases-lt f (g .facts t))

@@ -2,9 +2,10 @@ ghost use mathlib.Core.Path.{_≡_};
 ghost use Rattle.book.specs.Faults.{book-fault-number};
 ghost use Rattle.book.specs.Questions.{question-fault-number};
 
-// Why a reading was refused.
+// Why a reading, or putting two numbers together, was refused.
 #[derive(Clone, Copy)]
 pub enum BookFault {
+    Full,
     NotHeld,
 }
 
@@ -13,6 +14,7 @@ impl BookFault {
         ensures { λ r. ⌜ r ≡ book-fault-number (now (self .entry)) ⌝ }
     {
         match self {
+            BookFault::Full => 13,
             BookFault::NotHeld => 14,
         }
     }

@@ -7,6 +7,7 @@ mod gather;
 mod questions;
 mod saturation;
 mod scratch;
+mod together;
 mod work;
 
 pub use book::Book;

@@ -215,7 +215,7 @@ pub impl Theory for Differences as DifferencesTheory {
 
     ghost truth = { λ t. differences (t .variables) .truth };
 
-    ghost bounded = { λ t. differences-lawful (t .variables) (t .few) .bounds };
+    ghost lawful = { λ t. differences-lawful (t .variables) (t .few) };
 
     fn facts(&self) -> u16 {
         let v = self.variables as u16;

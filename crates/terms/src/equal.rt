@@ -85,7 +85,7 @@ pub impl Theory for Equality<'_, '_> as EqualityTheory {
 
     ghost truth = { λ e. equality (terms-of (now (e .table))) .truth };
 
-    ghost bounded = { λ e. equality-is-lawful (terms-of (now (e .table))) (table-out (terms-of (now (e .table))) (now (e .table) .table)) .bounds };
+    ghost lawful = { λ e. equality-is-lawful (terms-of (now (e .table))) (table-out (terms-of (now (e .table))) (now (e .table) .table)) };
 
     fn facts(&self) -> u16 {
         2 * square(self.table.len() as u16)

@@ -5,7 +5,7 @@ ghost use Prim.Native.Nat.{ℕ};
 ghost use lib.IntN.{ℤ};
 ghost use Rattle.std.specs.declared.option.Option.{Option};
 ghost use Rattle.theory.specs.declared.Rule.{Rule};
-ghost use Rattle.theory.specs.Theory.{Bounded};
+ghost use Rattle.theory.specs.Theory.{Lawful};
 
 mod faults;
 
@@ -43,8 +43,8 @@ pub trait Theory {
 
     ghost truth: { Self → List ℤ → ℕ → Bool };
 
-    // every implementation shows that its numbers keep to their limits
-    ghost bounded: { (t : Self) → Bounded (record { facts = facts t; places = places t; rule = rule t; opposite = opposite t; models = models t; truth = truth t }) };
+    // every implementation shows that its numbers keep to their limits, and the three laws
+    ghost lawful: { (t : Self) → Lawful (record { facts = facts t; places = places t; rule = rule t; opposite = opposite t; models = models t; truth = truth t }) };
 
     fn facts(&self) -> u16
         ensures { λ r. ⌜ r ≡ facts (now (self .entry)) ⌝ };

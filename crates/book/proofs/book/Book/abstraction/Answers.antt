@@ -23,7 +23,7 @@ answer-requires g c κs =
     let m = meaning (g .T·Theory) (c .args .theory .now) in
     let n : 2 * length ps - 0 ≡ 2 * length ps = omega arith in
     let pairs : take (2 * length ps - 0) (c .with-opposites-pairs .result) ≡ with-opposites m ps = ap (λ z. take z (c .with-opposites-pairs .result)) n ∙ c .with-opposites-pairs .ensures in
-    record { kept = kept-out (c .args .self .now .lent .rows .now) (c .args .self .now .lent .count) (c .args .self .now .kept); used = p .long; few = omega (arith, ap length pairs, twice-long m ps, p .few); facts = subst (λ xs. (k : ℕ) → k < length xs → getD xs k 0 < facts) (sym pairs) (pairs-are-facts m (g .T·Theory .bounded (c .args .theory .now)) ps (p .predicates-are-facts)) }
+    record { kept = kept-out (c .args .self .now .lent .rows .now) (c .args .self .now .lent .count) (c .args .self .now .kept); used = p .long; few = omega (arith, ap length pairs, twice-long m ps, p .few); facts = subst (λ xs. (k : ℕ) → k < length xs → getD xs k 0 < facts) (sym pairs) (pairs-are-facts m (g .T·Theory .lawful (c .args .theory .now) .bounds) ps (p .predicates-are-facts)) }
 
 pub ghost-self : need.ghost-self
 ghost-self g c = (∣ c .answer .ensures .kept ∣₁, tt)
