@@ -17,7 +17,12 @@ use register::Index;
 use register::Register;
 
 // A union or an intersection with an index and tables of its own, on the stack.
-fn within<const HEADS: usize, const ROWS: usize, const PAIRS: usize>(register: &mut Register<'_, Row>, op: Operation, left: u16, right: u16) -> Result<u16, NoRoom>
+fn within<const HEADS: usize, const ROWS: usize, const PAIRS: usize>(
+    register: &mut Register<'_, Row>,
+    op: Operation,
+    left: u16,
+    right: u16,
+) -> Result<u16, NoRoom>
     requires kept { ⌜ Kept-book (now (now register .rows)) (now register .count) ⌝ }
     requires heads { ⌜ 0 < HEADS ⌝ ∗ ⌜ HEADS ≤ 65536 ⌝ }
     requires few_rows { ⌜ ROWS ≤ 65536 ⌝ }
@@ -33,14 +38,25 @@ fn within<const HEADS: usize, const ROWS: usize, const PAIRS: usize>(register: &
     let mut next = [0u16; ROWS];
     let mut unions = [EMPTY; PAIRS];
     let mut intersections = [EMPTY; PAIRS];
-    let mut index = Index { heads: &mut heads, next: &mut next };
-    let mut tables = Tables { unions: &mut unions, intersections: &mut intersections };
+    let mut index = Index {
+        heads: &mut heads,
+        next: &mut next,
+    };
+    let mut tables = Tables {
+        unions: &mut unions,
+        intersections: &mut intersections,
+    };
     register.link_rows(&mut index);
     apply(register, &mut index, &mut tables, op, left, right)
 }
 
 // The index is as large as the book.
-fn sized(register: &mut Register<'_, Row>, op: Operation, left: u16, right: u16) -> Result<u16, NoRoom>
+fn sized(
+    register: &mut Register<'_, Row>,
+    op: Operation,
+    left: u16,
+    right: u16,
+) -> Result<u16, NoRoom>
     requires kept { ⌜ Kept-book (now (now register .rows)) (now register .count) ⌝ }
     requires left { ⌜ left < now register .count + 2 ⌝ }
     requires right { ⌜ right < now register .count + 2 ⌝ }
@@ -55,7 +71,12 @@ fn sized(register: &mut Register<'_, Row>, op: Operation, left: u16, right: u16)
 }
 
 // The number of the union or the intersection of two numbers. Where its rows do not fit they are all given back.
-pub fn together(register: &mut Register<'_, Row>, op: Operation, left: u16, right: u16) -> Result<u16, BookFault>
+pub fn together(
+    register: &mut Register<'_, Row>,
+    op: Operation,
+    left: u16,
+    right: u16,
+) -> Result<u16, BookFault>
     requires { ⌜ Kept-book (now (now register .rows)) (now register .count) ⌝ }
     ensures held { λ _. ⌜ name (now (register .exit) .rows) ≡ name (now (register .entry) .rows) ⌝ }
     ensures kept { λ _. ⌜ Kept-book (now (now (register .exit) .rows)) (now (register .exit) .count) ⌝ }
