@@ -1,4 +1,10 @@
 -- What making the number of a set does to a book's rows: the rows in use afterwards are those before and the rows of the set.
+--
+--   Adds     a number now reads as the set, and exactly the rows of the set were added to those in use
+--   From-on  a set makes no difference between choices that agree from a position on
+--   half     a set with a position chosen, or not chosen
+--   Halves   the numbers of a set's two halves at a position are there, with exactly the rows of both added
+--   child    the number of a number's half at a position: with or without of its row, or the number itself
 use mathlib.Core.Path.{_≡_}
 use mathlib.Core.Logic.{_↔_, _⊎_}
 use mathlib.Core.List.{List}
