@@ -1,4 +1,5 @@
 ghost use mathlib.Core.Path.{_≡_};
+ghost use Rattle.session.specs.declared.faults.Fault.the-variants.{Record as ofRecord, Term as ofTerm, Theory as ofTheory, Fact as ofFact, Question as ofQuestion};
 ghost use Rattle.session.specs.Faults.{fault-number};
 use book::QuestionFault;
 use records::RecordFault;
@@ -31,30 +32,40 @@ impl Fault {
 }
 
 pub impl From<RecordFault> for Fault as FaultFromRecord {
+    ghost converts = { λ fault r. r ≡ ofRecord fault };
+
     fn from(fault: RecordFault) -> Fault {
         Fault::Record(fault)
     }
 }
 
 pub impl From<TermFault> for Fault as FaultFromTerm {
+    ghost converts = { λ fault r. r ≡ ofTerm fault };
+
     fn from(fault: TermFault) -> Fault {
         Fault::Term(fault)
     }
 }
 
 pub impl From<TheoryFault> for Fault as FaultFromTheory {
+    ghost converts = { λ fault r. r ≡ ofTheory fault };
+
     fn from(fault: TheoryFault) -> Fault {
         Fault::Theory(fault)
     }
 }
 
 pub impl From<FactFault> for Fault as FaultFromFact {
+    ghost converts = { λ fault r. r ≡ ofFact fault };
+
     fn from(fault: FactFault) -> Fault {
         Fault::Fact(fault)
     }
 }
 
 pub impl From<QuestionFault> for Fault as FaultFromQuestion {
+    ghost converts = { λ fault r. r ≡ ofQuestion fault };
+
     fn from(fault: QuestionFault) -> Fault {
         Fault::Question(fault)
     }

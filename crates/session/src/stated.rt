@@ -1,3 +1,10 @@
+ghost use mathlib.Core.Path.{_≡_};
+ghost use Prim.Native.Nat.{ℕ};
+ghost use denote.Ref.{now};
+ghost use Rattle.std.specs.declared.result.Result.{Result};
+ghost use Rattle.records.specs.declared.record.Statement.{Statement};
+ghost use Rattle.session.specs.declared.faults.Fault.{Fault};
+ghost use Rattle.session.specs.Stated.{terms-stated, differences-stated};
 use crate::faults::Fault;
 use crate::faults::FaultFromFact;
 use differences::Bound;
@@ -13,10 +20,16 @@ use theory::Theory;
 
 // A theory whose facts can be stated in records.
 pub trait Stated: Theory {
-    fn state(&self, statement: Statement) -> Result<u16, Fault>;
+    // the number of the fact that a record states, or why there is none
+    ghost stated: { Self → Statement → Result ℕ Fault };
+
+    fn state(&self, statement: Statement) -> Result<u16, Fault>
+        ensures { λ r. ⌜ r ≡ stated (now (self .entry)) statement ⌝ };
 }
 
 pub impl Stated for Equality<'_, '_> as StatedEquality {
+    ghost stated = { λ e. terms-stated (now (e .table) .lent .count) };
+
     // Equality has = and ≠, and no constant.
     fn state(&self, statement: Statement) -> Result<u16, Fault> {
         let relation = match statement.relation {
@@ -32,6 +45,8 @@ pub impl Stated for Equality<'_, '_> as StatedEquality {
 }
 
 pub impl Stated for Differences as StatedDifferences {
+    ghost stated = { λ d. differences-stated (d .variables) };
+
     fn state(&self, statement: Statement) -> Result<u16, Fault> {
         let bound = match statement.relation {
             Relation::AtMost => Bound::AtMost,
