@@ -5,3 +5,7 @@ pub mod Carries
 pub mod Opposites
 pub mod Passing
 pub mod Pairs
+pub mod Failing
+pub mod Meeting
+pub mod Settling
+pub mod Answering

@@ -8,7 +8,8 @@ use lib.ListN.{length, getD, take, set, length-set}
 use lib.Seq.{getD-set-same, getD-set-other, ext-getD, length-take-le, getD-take}
 use Rattle.std.proofs.shelf.Tests.{cases-eq}
 use Rattle.theory.specs.Theory.{Meaning, Bounded}
-use Rattle.theory.specs.Abstraction.{or-0, with-opposites}
+use Rattle.theory.specs.Rounds.{Proper}
+use Rattle.theory.specs.Abstraction.{ask, or-0, with-opposites}
 
 -- the first k pairs stand
 abbrev pub Paired : Meaning → List ℕ → List ℕ → ℕ → Type 0
@@ -76,3 +77,12 @@ pairs-are-facts m b ps facts i lt = ⊎-elim
     let o = b .has-opposite (getD ps (e .0) 0) (facts (e .0) k) in
     omega (arith, ap (λ z. getD (with-opposites m ps) z 0) (e .1), pairs-are m ps (e .0) k .1, ap or-0 (o .1), o .2))
     (even-or-odd i)
+
+-- a question of pairs is proper
+pub proper-pairs : (m : Meaning) → Bounded m → (ps goals : List ℕ) → length ps ≤ 8 → Proper m (ask ps goals) → Proper m (ask (with-opposites m ps) goals)
+proper-pairs m b ps goals few proper = record {
+  few-predicates = omega (arith, twice-long m ps, few);
+  few-goals = proper .few-goals;
+  predicates-are-facts = pairs-are-facts m b ps (proper .predicates-are-facts);
+  goals-are-facts = proper .goals-are-facts;
+}

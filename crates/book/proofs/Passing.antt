@@ -12,6 +12,9 @@ use Rattle.std.proofs.shelf.Lists.{places}
 use Rattle.std.proofs.shelf.Tests.{ltb-true, ltb-false, and-parts, not-false, cases-lt}
 use Rattle.std.specs.declared.option.Option.{Option}
 use Rattle.std.specs.declared.option.Option.the-variants.{Some, None}
+use Rattle.theory.specs.Theory.{Meaning}
+use Rattle.theory.specs.Rounds.{Proper}
+use Rattle.theory.specs.Abstraction.{ask}
 use Rattle.book.specs.declared.faults.QuestionFault.{QuestionFault}
 use Rattle.book.specs.declared.faults.QuestionFault.the-variants.{TooManyPredicates, TooManyGoals, NoFact, ShortWork}
 use Rattle.book.specs.Questions.{all-facts, first-fault, work-after}
@@ -68,3 +71,7 @@ work-zeroed facts work work′ le long zeroed rest =
     let n = 2 * (facts + 1) in
     ext-getD 0 work′ (work-after facts None work) (long ∙ sym (whole n work le))
     (λ k lt. ⊎-elim (λ below. zeroed k below ∙ sym (low n work k le below)) (λ above. rest k above ∙ sym (high n work k le above (omega (arith, lt, long)))) (cases-lt k n))
+
+-- a question that passes its checks is proper
+pub passed-proper : (m : Meaning) (limit : ℕ) (predicates goals : List ℕ) (work : ℕ) → limit ≤ 16 → Passed (m .facts) limit predicates goals work → Proper m (ask predicates goals)
+passed-proper m limit predicates goals work le p = record { few-predicates = omega (arith, p .few, le); few-goals = p .few-goals; predicates-are-facts = p .predicates-are-facts; goals-are-facts = p .goals-are-facts }

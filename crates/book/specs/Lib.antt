@@ -3,3 +3,4 @@ pub mod Faults
 pub mod Calls
 pub mod Questions
 pub mod Work
+pub mod Steps

@@ -6,7 +6,9 @@ ghost use Rattle.std.specs.Results.{Cases as ByOk};
 ghost use Rattle.theory.specs.Theory.{Names, conclusion};
 ghost use Rattle.diagrams.specs.Applying.{Extends};
 ghost use Rattle.book.specs.Scratch.{Ready};
-ghost use Rattle.book.specs.Questions.{Holding, slot};
+ghost use Rattle.saturation.specs.Stages.{slot as slotOf};
+ghost use Rattle.book.specs.Questions.{Holding};
+ghost use Rattle.book.specs.Steps.{Gathers, Meets, Derived, Positioned};
 ghost use Rattle.book.specs.Work.{SameFrom};
 use crate::apply::apply;
 use crate::apply::make;
@@ -41,6 +43,7 @@ pub fn gather(
     ensures ready { λ _. ⌜ Ready (now (now (register .exit) .rows)) (now (register .exit) .count) (now (now (index .exit) .heads)) (now (now (index .exit) .next)) (now (now (tables .exit) .unions)) (now (now (tables .exit) .intersections)) ⌝ }
     ensures holding { λ _. ⌜ Holding (now (now (work .exit) .numbers)) (now (work .exit) .used) (now (register .exit) .count) ⌝ }
     ensures rest { λ _. ⌜ SameFrom (now (work .entry) .used) (now (now (work .entry) .numbers)) (now (now (work .exit) .numbers)) ⌝ }
+    ensures gathers { λ r. ⌜ Gathers (now (now (register .entry) .rows)) (now (register .entry) .count) (now (now (work .entry) .numbers)) (now (now (register .exit) .rows)) (now (register .exit) .count) (now (now (work .exit) .numbers)) slot number r ⌝ }
 {
     let gathered = work.numbers[slot] as u16;
     let together = apply(register, index, tables, Operation::Union, gathered, number)?;
@@ -69,6 +72,7 @@ pub fn gather_position(
     ensures ready { λ _. ⌜ Ready (now (now (register .exit) .rows)) (now (register .exit) .count) (now (now (index .exit) .heads)) (now (now (index .exit) .next)) (now (now (tables .exit) .unions)) (now (now (tables .exit) .intersections)) ⌝ }
     ensures holding { λ _. ⌜ Holding (now (now (work .exit) .numbers)) (now (work .exit) .used) (now (register .exit) .count) ⌝ }
     ensures rest { λ _. ⌜ SameFrom (now (work .entry) .used) (now (now (work .entry) .numbers)) (now (now (work .exit) .numbers)) ⌝ }
+    ensures positioned { λ r. ⌜ Positioned position fact (now (now (register .entry) .rows)) (now (register .entry) .count) (now (now (work .entry) .numbers)) (now (now (register .exit) .rows)) (now (register .exit) .count) (now (now (work .exit) .numbers)) r ⌝ }
 {
     let chosen = make(register, index, position, 0, 1)?;
     gather(register, index, tables, work, fact as usize, chosen)
@@ -91,6 +95,7 @@ fn premises(
     ensures extends { λ _. ⌜ Extends (now (now (register .entry) .rows)) (now (register .entry) .count) (now (now (register .exit) .rows)) (now (register .exit) .count) ⌝ }
     ensures ready { λ _. ⌜ Ready (now (now (register .exit) .rows)) (now (register .exit) .count) (now (now (index .exit) .heads)) (now (now (index .exit) .next)) (now (now (tables .exit) .unions)) (now (now (tables .exit) .intersections)) ⌝ }
     ensures held { λ r. ⌜ ByOk r (λ n. n < now (register .exit) .count + 2) (λ _. Unit {0}) ⌝ }
+    ensures meets { λ r. ⌜ Meets (now (now (register .entry) .rows)) (now (register .entry) .count) (now (now (work .entry) .numbers)) (now (now (register .exit) .rows)) (now (register .exit) .count) rule r ⌝ }
 {
     match rule {
         Rule::Always(_) => Ok(1),
@@ -112,7 +117,7 @@ fn premises(
 
 // The slot of what a rule gives: that of the fact, or the one behind the facts for the contradiction.
 fn slot_of(facts: u16, rule: Rule) -> usize
-    ensures { λ r. ⌜ r ≡ slot facts (conclusion rule) ⌝ }
+    ensures { λ r. ⌜ r ≡ slotOf facts (conclusion rule) ⌝ }
 {
     let given = match rule {
         Rule::Always(given) => given,
@@ -146,6 +151,7 @@ pub fn derive(
     ensures ready { λ _. ⌜ Ready (now (now (register .exit) .rows)) (now (register .exit) .count) (now (now (index .exit) .heads)) (now (now (index .exit) .next)) (now (now (tables .exit) .unions)) (now (now (tables .exit) .intersections)) ⌝ }
     ensures holding { λ _. ⌜ Holding (now (now (work .exit) .numbers)) (now (work .exit) .used) (now (register .exit) .count) ⌝ }
     ensures rest { λ _. ⌜ SameFrom (now (work .entry) .used) (now (now (work .entry) .numbers)) (now (now (work .exit) .numbers)) ⌝ }
+    ensures derived { λ r. ⌜ Derived facts rule (now (now (register .entry) .rows)) (now (register .entry) .count) (now (now (work .entry) .numbers)) (now (now (register .exit) .rows)) (now (register .exit) .count) (now (now (work .exit) .numbers)) r ⌝ }
 {
     let together = premises(register, index, tables, work, rule)?;
     let gathered = facts as usize + 1 + slot_of(facts, rule);

@@ -2,14 +2,15 @@ ghost use mathlib.Core.Path.{_≡_};
 ghost use Prim.Native.Nat.{ℕ, _+_, _*_, _<_, _≤_};
 ghost use lib.ListN.{length, getD, take};
 ghost use denote.Ref.{now, name};
-ghost use Rattle.std.specs.Results.{Cases as ByOk};
 ghost use Rattle.std.specs.declared.option.Option.the-variants.{None};
-ghost use Rattle.theory.specs.Abstraction.{with-opposites};
+ghost use Rattle.theory.specs.Abstraction.{ask, with-opposites};
 ghost use Rattle.theory.specs.Means.{meaning};
+ghost use Rattle.theory.specs.Rounds.{Proper};
 ghost use Rattle.diagrams.specs.Applying.{Extends};
-ghost use Rattle.diagrams.specs.Books.{Kept-book, Keeps, book-of, capacity};
+ghost use Rattle.diagrams.specs.Books.{Kept-book, book-of};
 ghost use Rattle.book.specs.Work.{ZeroBelow, SameFrom};
-ghost use Rattle.book.specs.Questions.{first-fault, work-after, Asked};
+ghost use Rattle.book.specs.Questions.{first-fault, work-after, Asked, Implied};
+ghost use Rattle.book.specs.Steps.{Saturates};
 use crate::apply::MOST_ROWS;
 use crate::book::Book;
 use crate::calls::BLANK;
@@ -38,7 +39,7 @@ fn sized<T: Theory>(
     ensures extends { λ _. ⌜ Extends (now (now (register .entry) .rows)) (now (register .entry) .count) (now (now (register .exit) .rows)) (now (register .exit) .count) ⌝ }
     ensures zero { λ _. ⌜ ZeroBelow (now (numbers .exit)) (2 * (T·Theory .facts (now (theory .entry)) + 1)) ⌝ }
     ensures rest { λ _. ⌜ SameFrom (2 * (T·Theory .facts (now (theory .entry)) + 1)) (now (numbers .entry)) (now (numbers .exit)) ⌝ }
-    ensures held { λ r. ⌜ ByOk r (λ p. p .0 < now (register .exit) .count + 2) (λ _. Unit {0}) ⌝ }
+    ensures saturates { λ r. ⌜ Saturates (meaning T·Theory (now (theory .entry))) (ask (now (predicates .entry)) (now (goals .entry))) (now (now (register .entry) .rows)) (now (register .entry) .count) (now (now (register .exit) .rows)) (now (register .exit) .count) r ⌝ }
 {
     let rows = register.rows.len();
     if rows > 4096 {
@@ -60,11 +61,10 @@ fn answer<T: Theory>(
 ) -> Result<(u16, u16), QuestionFault>
     requires kept { ⌜ Kept-book (now (now register .rows)) (now register .count) ⌝ }
     requires used { ⌜ 2 * (T·Theory .facts (now theory) + 1) ≤ length (now numbers) ⌝ }
-    requires few { ⌜ length (now predicates) ≤ 16 ⌝ }
-    requires facts { ⌜ ((k : ℕ) → k < length (now predicates) → getD (now predicates) k 0 < T·Theory .facts (now theory)) ⌝ }
+    requires proper { ⌜ Proper (meaning T·Theory (now theory)) (ask (now predicates) (now goals)) ⌝ }
     ensures register { λ _. ⌜ name (now (register .exit) .rows) ≡ name (now (register .entry) .rows) ⌝ }
     ensures kept { λ _. ⌜ Kept-book (now (now (register .exit) .rows)) (now (register .exit) .count) ⌝ }
-    ensures asked { λ r. ⌜ Asked None (book-of (now (now (register .entry) .rows)) (now (register .entry) .count)) (book-of (now (now (register .exit) .rows)) (now (register .exit) .count)) r ⌝ }
+    ensures asked { λ r. ⌜ Asked (meaning T·Theory (now (theory .entry))) (ask (now (predicates .entry)) (now (goals .entry))) None (book-of (now (now (register .entry) .rows)) (now (register .entry) .count)) (book-of (now (now (register .exit) .rows)) (now (register .exit) .count)) r ⌝ }
     ensures zero { λ _. ⌜ ZeroBelow (now (numbers .exit)) (2 * (T·Theory .facts (now (theory .entry)) + 1)) ⌝ }
     ensures rest { λ _. ⌜ SameFrom (2 * (T·Theory .facts (now (theory .entry)) + 1)) (now (numbers .entry)) (now (numbers .exit)) ⌝ }
 {
@@ -89,7 +89,7 @@ impl Book<'_> {
         work: &mut [u32],
     ) -> Result<(u16, u16), QuestionFault>
         ensures held { λ _. ⌜ name (now (self .exit) .lent .rows) ≡ name (now (self .entry) .lent .rows) ⌝ }
-        ensures asked { λ r. ⌜ Asked (first-fault (T·Theory .facts (now (theory .entry))) 16 (now (predicates .entry)) (now (goals .entry)) (length (now (work .entry)))) (book-of (now (now (self .entry) .lent .rows)) (now (self .entry) .lent .count)) (book-of (now (now (self .exit) .lent .rows)) (now (self .exit) .lent .count)) r ⌝ }
+        ensures asked { λ r. ⌜ Asked (meaning T·Theory (now (theory .entry))) (ask (now (predicates .entry)) (now (goals .entry))) (first-fault (T·Theory .facts (now (theory .entry))) 16 (now (predicates .entry)) (now (goals .entry)) (length (now (work .entry)))) (book-of (now (now (self .entry) .lent .rows)) (now (self .entry) .lent .count)) (book-of (now (now (self .exit) .lent .rows)) (now (self .exit) .lent .count)) r ⌝ }
         ensures work { λ _. ⌜ now (work .exit) ≡ work-after (T·Theory .facts (now (theory .entry))) (first-fault (T·Theory .facts (now (theory .entry))) 16 (now (predicates .entry)) (now (goals .entry)) (length (now (work .entry)))) (now (work .entry)) ⌝ }
     {
         if let Some(fault) = first_fault(theory.facts(), 16, predicates, goals, work.len()) {
@@ -123,7 +123,8 @@ impl Book<'_> {
         work: &mut [u32],
     ) -> Result<(u16, u16), QuestionFault>
         ensures held { λ _. ⌜ name (now (self .exit) .lent .rows) ≡ name (now (self .entry) .lent .rows) ⌝ }
-        ensures asked { λ r. ⌜ Asked (first-fault (T·Theory .facts (now (theory .entry))) 8 (now (predicates .entry)) (now (goals .entry)) (length (now (work .entry)))) (book-of (now (now (self .entry) .lent .rows)) (now (self .entry) .lent .count)) (book-of (now (now (self .exit) .lent .rows)) (now (self .exit) .lent .count)) r ⌝ }
+        ensures asked { λ r. ⌜ Asked (meaning T·Theory (now (theory .entry))) (ask (with-opposites (meaning T·Theory (now (theory .entry))) (now (predicates .entry))) (now (goals .entry))) (first-fault (T·Theory .facts (now (theory .entry))) 8 (now (predicates .entry)) (now (goals .entry)) (length (now (work .entry)))) (book-of (now (now (self .entry) .lent .rows)) (now (self .entry) .lent .count)) (book-of (now (now (self .exit) .lent .rows)) (now (self .exit) .lent .count)) r ⌝ }
+        ensures implied { λ r. ⌜ Implied (meaning T·Theory (now (theory .entry))) (now (predicates .entry)) (now (goals .entry)) (first-fault (T·Theory .facts (now (theory .entry))) 8 (now (predicates .entry)) (now (goals .entry)) (length (now (work .entry)))) (book-of (now (now (self .exit) .lent .rows)) (now (self .exit) .lent .count)) r ⌝ }
         ensures work { λ _. ⌜ now (work .exit) ≡ work-after (T·Theory .facts (now (theory .entry))) (first-fault (T·Theory .facts (now (theory .entry))) 8 (now (predicates .entry)) (now (goals .entry)) (length (now (work .entry)))) (now (work .entry)) ⌝ }
     {
         if let Some(fault) = first_fault(theory.facts(), 8, predicates, goals, work.len()) {

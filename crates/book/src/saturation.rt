@@ -2,13 +2,15 @@ ghost use mathlib.Core.Path.{_≡_};
 ghost use Prim.Native.Nat.{ℕ, _+_, _*_, _<_, _≤_};
 ghost use lib.ListN.{length, getD};
 ghost use denote.Ref.{now, name};
-ghost use Rattle.std.specs.Results.{Cases as ByOk};
 ghost use Rattle.diagrams.specs.Applying.{Extends};
 ghost use Rattle.book.specs.Scratch.{Ready};
-ghost use Rattle.book.specs.Questions.{Holding, all-facts};
+ghost use Rattle.theory.specs.Abstraction.{ask};
+ghost use Rattle.theory.specs.Means.{meaning};
+ghost use Rattle.saturation.specs.Stages.{Settled, Begun};
+ghost use Rattle.book.specs.Questions.{Holding};
+ghost use Rattle.book.specs.Steps.{Starts, Opposes, Rounded, Turns, Rounds-end, Saturates};
 ghost use Rattle.book.specs.Work.{ZeroBelow, SameFrom};
 ghost use Rattle.diagrams.specs.Books.{Kept-book, capacity};
-ghost use mathlib.Core.Bool.{true};
 use crate::gather::derive;
 use crate::gather::gather_position;
 use crate::scratch::EMPTY;
@@ -42,6 +44,7 @@ fn start_predicates(
     ensures ready { λ _. ⌜ Ready (now (now (register .exit) .rows)) (now (register .exit) .count) (now (now (index .exit) .heads)) (now (now (index .exit) .next)) (now (now (tables .exit) .unions)) (now (now (tables .exit) .intersections)) ⌝ }
     ensures holding { λ _. ⌜ Holding (now (now (work .exit) .numbers)) (now (work .exit) .used) (now (register .exit) .count) ⌝ }
     ensures rest { λ _. ⌜ SameFrom (now (work .entry) .used) (now (now (work .entry) .numbers)) (now (now (work .exit) .numbers)) ⌝ }
+    ensures starts { λ r. ⌜ Starts (now (predicates .entry)) (now (now (register .entry) .rows)) (now (register .entry) .count) (now (now (work .entry) .numbers)) (now (now (register .exit) .rows)) (now (register .exit) .count) (now (now (work .exit) .numbers)) r ⌝ }
 {
     for (position, fact) in predicates.iter().enumerate() {
         gather_position(register, index, tables, work, position as u8, *fact)?;
@@ -55,6 +58,7 @@ fn start_goals<T: Theory>(theory: &T, work: &mut Work<'_>, goals: &[u16])
     ensures work { λ _. ⌜ (name (now (work .exit) .numbers) ≡ name (now (work .entry) .numbers)) × (now (work .exit) .used ≡ now (work .entry) .used) ⌝ }
     ensures holding { λ _. ⌜ ((count : ℕ) → Holding (now (now (work .entry) .numbers)) (now (work .entry) .used) count → Holding (now (now (work .exit) .numbers)) (now (work .exit) .used) count) ⌝ }
     ensures rest { λ _. ⌜ SameFrom (now (work .entry) .used) (now (now (work .entry) .numbers)) (now (now (work .exit) .numbers)) ⌝ }
+    ensures opposes { λ _. ⌜ Opposes (meaning T·Theory (now (theory .entry))) (now (goals .entry)) (now (now (work .entry) .numbers)) (now (now (work .exit) .numbers)) ⌝ }
 {
     for goal in goals {
         let Some(opposite) = theory.opposite(*goal) else {
@@ -70,6 +74,7 @@ fn settle(work: &mut Work<'_>, facts: u16) -> bool
     ensures work { λ _. ⌜ (name (now (work .exit) .numbers) ≡ name (now (work .entry) .numbers)) × (now (work .exit) .used ≡ now (work .entry) .used) ⌝ }
     ensures holding { λ _. ⌜ ((count : ℕ) → Holding (now (now (work .entry) .numbers)) (now (work .entry) .used) count → Holding (now (now (work .exit) .numbers)) (now (work .exit) .used) count) ⌝ }
     ensures rest { λ _. ⌜ SameFrom (now (work .entry) .used) (now (now (work .entry) .numbers)) (now (now (work .exit) .numbers)) ⌝ }
+    ensures settled { λ r. ⌜ Settled facts (now (now (work .entry) .numbers)) (now (now (work .exit) .numbers)) r ⌝ }
 {
     let half = facts as usize + 1;
     let mut changed = false;
@@ -88,6 +93,7 @@ fn begin(work: &mut Work<'_>, facts: u16)
     ensures work { λ _. ⌜ (name (now (work .exit) .numbers) ≡ name (now (work .entry) .numbers)) × (now (work .exit) .used ≡ now (work .entry) .used) ⌝ }
     ensures holding { λ _. ⌜ ((count : ℕ) → Holding (now (now (work .entry) .numbers)) (now (work .entry) .used) count → Holding (now (now (work .exit) .numbers)) (now (work .exit) .used) count) ⌝ }
     ensures rest { λ _. ⌜ SameFrom (now (work .entry) .used) (now (now (work .entry) .numbers)) (now (now (work .exit) .numbers)) ⌝ }
+    ensures begun { λ _. ⌜ Begun facts (now (now (work .entry) .numbers)) (now (now (work .exit) .numbers)) ⌝ }
 {
     let half = facts as usize + 1;
     for slot in 0..half {
@@ -117,11 +123,13 @@ fn round<T: Theory>(
     ensures ready { λ _. ⌜ Ready (now (now (register .exit) .rows)) (now (register .exit) .count) (now (now (index .exit) .heads)) (now (now (index .exit) .next)) (now (now (tables .exit) .unions)) (now (now (tables .exit) .intersections)) ⌝ }
     ensures holding { λ _. ⌜ Holding (now (now (work .exit) .numbers)) (now (work .exit) .used) (now (register .exit) .count) ⌝ }
     ensures rest { λ _. ⌜ SameFrom (now (work .entry) .used) (now (now (work .entry) .numbers)) (now (now (work .exit) .numbers)) ⌝ }
+    ensures rounded { λ r. ⌜ Rounded (meaning T·Theory (now (theory .entry))) (now (now (register .entry) .rows)) (now (register .entry) .count) (now (now (work .entry) .numbers)) (now (now (register .exit) .rows)) (now (register .exit) .count) (now (now (work .exit) .numbers)) r ⌝ }
 {
     for place in 0..theory.places() {
-        if let Some(rule) = theory.rule(place) {
-            derive(register, index, tables, work, facts, rule)?;
-        }
+        let Some(rule) = theory.rule(place) else {
+            continue;
+        };
+        derive(register, index, tables, work, facts, rule)?;
     }
     Ok(())
 }
@@ -147,6 +155,7 @@ fn next_round<T: Theory>(
     ensures ready { λ _. ⌜ Ready (now (now (register .exit) .rows)) (now (register .exit) .count) (now (now (index .exit) .heads)) (now (now (index .exit) .next)) (now (now (tables .exit) .unions)) (now (now (tables .exit) .intersections)) ⌝ }
     ensures holding { λ _. ⌜ Holding (now (now (work .exit) .numbers)) (now (work .exit) .used) (now (register .exit) .count) ⌝ }
     ensures rest { λ _. ⌜ SameFrom (now (work .entry) .used) (now (now (work .entry) .numbers)) (now (now (work .exit) .numbers)) ⌝ }
+    ensures turns { λ r. ⌜ Turns (meaning T·Theory (now (theory .entry))) (now (now (register .entry) .rows)) (now (register .entry) .count) (now (now (work .entry) .numbers)) (now (now (register .exit) .rows)) (now (register .exit) .count) (now (now (work .exit) .numbers)) r ⌝ }
 {
     round(theory, register, index, tables, work, facts)?;
     Ok(settle(work, facts))
@@ -173,10 +182,11 @@ fn rounds<T: Theory>(
     ensures ready { λ _. ⌜ Ready (now (now (register .exit) .rows)) (now (register .exit) .count) (now (now (index .exit) .heads)) (now (now (index .exit) .next)) (now (now (tables .exit) .unions)) (now (now (tables .exit) .intersections)) ⌝ }
     ensures holding { λ _. ⌜ Holding (now (now (work .exit) .numbers)) (now (work .exit) .used) (now (register .exit) .count) ⌝ }
     ensures rest { λ _. ⌜ SameFrom (now (work .entry) .used) (now (now (work .entry) .numbers)) (now (now (work .exit) .numbers)) ⌝ }
-    ensures held { λ r. ⌜ ByOk r (λ p. p .0 < now (register .exit) .count + 2) (λ _. Unit {0}) ⌝ }
+    ensures ends { λ r. ⌜ Rounds-end (meaning T·Theory (now (theory .entry))) (now (now (register .entry) .rows)) (now (register .entry) .count) (now (now (work .entry) .numbers)) (now (now (register .exit) .rows)) (now (register .exit) .count) r ⌝ }
 {
     for gaining in 0..facts + 2 {
-        if !next_round(theory, register, index, tables, work, facts)? {
+        let changed = next_round(theory, register, index, tables, work, facts)?;
+        if !changed {
             return Ok((work.numbers[facts as usize] as u16, gaining));
         }
     }
@@ -197,14 +207,15 @@ fn saturate<T: Theory>(
     requires holding { ⌜ Holding (now (now work .numbers)) (now work .used) (now register .count) ⌝ }
     requires used { ⌜ now work .used ≡ 2 * (T·Theory .facts (now theory) + 1) ⌝ }
     requires few { ⌜ length (now predicates) ≤ 16 ⌝ }
-    requires facts { ⌜ ((k : ℕ) → k < length (now predicates) → getD (now predicates) k 0 < now work .used) ⌝ }
+    requires facts { ⌜ ((k : ℕ) → k < length (now predicates) → getD (now predicates) k 0 < T·Theory .facts (now theory)) ⌝ }
+    requires zero { ⌜ ZeroBelow (now (now work .numbers)) (now work .used) ⌝ }
     ensures register { λ _. ⌜ name (now (register .exit) .rows) ≡ name (now (register .entry) .rows) ⌝ }
     ensures index { λ _. ⌜ (name (now (index .exit) .heads) ≡ name (now (index .entry) .heads)) × (name (now (index .exit) .next) ≡ name (now (index .entry) .next)) ⌝ }
     ensures tables { λ _. ⌜ (name (now (tables .exit) .unions) ≡ name (now (tables .entry) .unions)) × (name (now (tables .exit) .intersections) ≡ name (now (tables .entry) .intersections)) ⌝ }
     ensures work { λ _. ⌜ (name (now (work .exit) .numbers) ≡ name (now (work .entry) .numbers)) × (now (work .exit) .used ≡ now (work .entry) .used) ⌝ }
     ensures extends { λ _. ⌜ Extends (now (now (register .entry) .rows)) (now (register .entry) .count) (now (now (register .exit) .rows)) (now (register .exit) .count) ⌝ }
     ensures rest { λ _. ⌜ SameFrom (now (work .entry) .used) (now (now (work .entry) .numbers)) (now (now (work .exit) .numbers)) ⌝ }
-    ensures held { λ r. ⌜ ByOk r (λ p. p .0 < now (register .exit) .count + 2) (λ _. Unit {0}) ⌝ }
+    ensures saturates { λ r. ⌜ Saturates (meaning T·Theory (now (theory .entry))) (ask (now (predicates .entry)) (now (goals .entry))) (now (now (register .entry) .rows)) (now (register .entry) .count) (now (now (register .exit) .rows)) (now (register .exit) .count) r ⌝ }
 {
     let facts = theory.facts();
     start_predicates(register, index, tables, work, predicates)?;
@@ -234,7 +245,7 @@ pub fn within<T: Theory, const HEADS: usize, const ROWS: usize, const PAIRS: usi
     ensures extends { λ _. ⌜ Extends (now (now (register .entry) .rows)) (now (register .entry) .count) (now (now (register .exit) .rows)) (now (register .exit) .count) ⌝ }
     ensures zero { λ _. ⌜ ZeroBelow (now (numbers .exit)) (2 * (T·Theory .facts (now (theory .entry)) + 1)) ⌝ }
     ensures rest { λ _. ⌜ SameFrom (2 * (T·Theory .facts (now (theory .entry)) + 1)) (now (numbers .entry)) (now (numbers .exit)) ⌝ }
-    ensures held { λ r. ⌜ ByOk r (λ p. p .0 < now (register .exit) .count + 2) (λ _. Unit {0}) ⌝ }
+    ensures saturates { λ r. ⌜ Saturates (meaning T·Theory (now (theory .entry))) (ask (now (predicates .entry)) (now (goals .entry))) (now (now (register .entry) .rows)) (now (register .entry) .count) (now (now (register .exit) .rows)) (now (register .exit) .count) r ⌝ }
 {
     let mut heads = [0u16; HEADS];
     let mut next = [0u16; ROWS];

@@ -4,3 +4,6 @@ pub mod RoundCount
 pub mod FullCases
 pub mod WorkingGrows
 pub mod Saturating
+pub mod Placing
+pub mod Turning
+pub mod Starting

@@ -16,8 +16,9 @@ use Rattle.theory.specs.Counting.{More-than}
 use Rattle.theory.specs.Rounds.{Question, after, round, Derives}
 use Rattle.diagrams.specs.Diagram.{Choices, Part, Row-of, In-use, Sound, row-at}
 use Rattle.saturation.specs.Working.{Working, Changes}
+use Rattle.saturation.specs.Stages.{Progress, Too-many}
 use Rattle.diagrams.specs.Making.{Adds}
-use Rattle.diagrams.specs.Books.{Book, capacity, Keeps, Grows, Wanted, Outnumber}
+use Rattle.diagrams.specs.Books.{Book, capacity, Keeps, Grows, Wanted}
 use Rattle.saturation.proofs.Closing.{Still, later}
 use Rattle.saturation.proofs.RoundCount.{still-later}
 use Rattle.diagrams.proofs.Counted.{counts-iff}
@@ -49,41 +50,48 @@ module _ (m : Meaning) (q : Question) (l : Lawful m) where
         (cases-lt (d .0) k),
   )
 
--- the rows in use are those at the start and those of the sets made so far
-pub record Progress (rows : List Row) (count : ℕ) (rows′ : List Row) (count′ : ℕ) (D : Choices → Type 0) : Type 0 where
-  pub long : length rows′ ≡ length rows
-  pub stay : (r : ℕ) → r < count → row-at rows′ r ≡ row-at rows r
-  pub more : count ≤ count′
-  pub sound : Sound rows′ count′
-  pub exact : (x : Part) → In-use rows′ count′ x ↔ (In-use rows count x ⊎ ((s : Choices) × D s × Row-of s x))
-
 pub no-progress : (rows : List Row) (count : ℕ) → Sound rows count → Progress rows count rows count (λ _. ⊥)
 no-progress rows count sound = record { long = refl; stay = λ r lt. refl; more = omega arith; sound = sound; exact = λ x. (inl, ⊎-elim (λ u. u) (λ t. absurd (t .1))) }
 
-pub one-set-more : (rows : List Row) (count : ℕ) (rows₁ : List Row) (count₁ : ℕ) (rows₂ : List Row) (count₂ : ℕ) (D : Choices → Type 0) (s : Choices) (n : ℕ)
-    → Progress rows count rows₁ count₁ D → Adds rows₁ count₁ rows₂ count₂ s n → Progress rows count rows₂ count₂ (λ t. D t ⊎ (t ≡ s))
-one-set-more rows count rows₁ count₁ rows₂ count₂ D s n p a = record {
+-- one set made
+pub set-made : {rows : List Row} {count : ℕ} {rows′ : List Row} {count′ : ℕ} (s : Choices) (n : ℕ) → Adds rows count rows′ count′ s n → Progress rows count rows′ count′ (λ t. t ≡ s)
+set-made s n a = record {
+  long = a .long;
+  stay = a .stay;
+  more = a .more;
+  sound = a .sound;
+  exact = λ x. Iff·trans (a .exact x) (⊎-elim inl (λ row. inr (s, refl, row)), ⊎-elim inl (λ t. inr (subst (λ z. Row-of z x) (t .1) (t .2))));
+}
+
+-- some sets made, and then others
+pub progress-on : {rows : List Row} {count : ℕ} {rows₁ : List Row} {count₁ : ℕ} {rows₂ : List Row} {count₂ : ℕ} (D E : Choices → Type 0)
+    → Progress rows count rows₁ count₁ D → Progress rows₁ count₁ rows₂ count₂ E → Progress rows count rows₂ count₂ (λ s. D s ⊎ E s)
+progress-on D E p a = record {
   long = a .long ∙ p .long;
   stay = λ r lt. a .stay r (omega (arith, lt, p .more)) ∙ p .stay r lt;
   more = omega (arith, p .more, a .more);
   sound = a .sound;
   exact = λ x. (
-    λ u. ⊎-elim (λ old. ⊎-elim inl (λ t. inr (t .0, inl (t .1), t .2)) (p .exact x .0 old)) (λ row. inr (s, inr refl, row)) (a .exact x .0 u),
+    λ u. ⊎-elim (λ old. ⊎-elim inl (λ t. inr (t .0, inl (t .1), t .2)) (p .exact x .0 old)) (λ t. inr (t .0, inr (t .1), t .2)) (a .exact x .0 u),
     ⊎-elim (λ u. a .exact x .1 (inl (p .exact x .1 (inl u))))
-        (λ t. ⊎-elim (λ d. a .exact x .1 (inl (p .exact x .1 (inr (t .0, d, t .2))))) (λ e. a .exact x .1 (inr (subst (λ z. Row-of z x) e (t .2)))) (t .1)),
+        (λ t. ⊎-elim (λ d. a .exact x .1 (inl (p .exact x .1 (inr (t .0, d, t .2))))) (λ e. a .exact x .1 (inr (t .0, e, t .2))) (t .1)),
   );
 }
 
--- the sets made may be named otherwise
-pub same-progress : (rows : List Row) (count : ℕ) (rows′ : List Row) (count′ : ℕ) (D E : Choices → Type 0) → ((s : Choices) → D s ↔ E s) → Progress rows count rows′ count′ D → Progress rows count rows′ count′ E
-same-progress rows count rows′ count′ D E e p = record {
+-- the sets made may be named otherwise, as long as they have the same rows
+pub same-rows : {rows : List Row} {count : ℕ} {rows′ : List Row} {count′ : ℕ} (D E : Choices → Type 0)
+    → ((x : Part) (s : Choices) → D s → Row-of s x → (t : Choices) × E t × Row-of t x) → ((x : Part) (s : Choices) → E s → Row-of s x → (t : Choices) × D t × Row-of t x)
+    → Progress rows count rows′ count′ D → Progress rows count rows′ count′ E
+same-rows D E to from p = record {
   long = p .long;
   stay = p .stay;
   more = p .more;
   sound = p .sound;
-  exact = λ x. Iff·trans (p .exact x)
-      (⊎-elim inl (λ t. inr (t .0, e (t .0) .0 (t .1), t .2)), ⊎-elim inl (λ t. inr (t .0, e (t .0) .1 (t .1), t .2)));
+  exact = λ x. Iff·trans (p .exact x) (⊎-elim inl (λ t. inr (to x (t .0) (t .1) (t .2))), ⊎-elim inl (λ t. inr (from x (t .0) (t .1) (t .2))));
 }
+
+pub same-progress : (rows : List Row) (count : ℕ) (rows′ : List Row) (count′ : ℕ) (D E : Choices → Type 0) → ((s : Choices) → D s ↔ E s) → Progress rows count rows′ count′ D → Progress rows count rows′ count′ E
+same-progress rows count rows′ count′ D E e p = same-rows D E (λ x s d row. (s, e s .0 d, row)) (λ x s d row. (s, e s .1 d, row)) p
 
 -- all working sets made: what a question leaves
 pub question-grows : (m : Meaning) (q : Question) (b b′ : Book) → Keeps b b′ → Progress (b .rows) (b .count) (b′ .rows) (b′ .count) (Working m q) → Grows b b′ (Working-row m q)
@@ -107,12 +115,16 @@ join-grows s n b b′ keeps a = record {
   sound = a .sound;
 }
 
+-- too many rows of some sets are too many of more sets
+pub too-many-more : (rows : List Row) (count : ℕ) (D E : Choices → Type 0) → ((s : Choices) → D s → E s) → Too-many rows count D → Too-many rows count E
+too-many-more rows count D E into t = (t .0, t .1, λ x mem. ⊎-elim inl (λ d. inr (d .0, into (d .0) (d .1), d .2)) (t .2 x mem), t .3)
+
 -- too many rows on the way are too many in all
-pub still-outnumber : (m : Meaning) (q : Question) (b : Book) (rows₁ : List Row) (count₁ n : ℕ) (D : Choices → Type 0) (s : Choices) → ((t : Choices) → D t → Working m q t) → Working m q s
-    → Progress (b .rows) (b .count) rows₁ count₁ D → More-than n (λ x. In-use rows₁ count₁ x ⊎ Row-of s x) → n ≡ capacity (b .rows) → Outnumber b (Working-row m q)
-still-outnumber m q b rows₁ count₁ n D s some this p more e = (
-  more .0,
-  more .1,
-  λ x mem. ⊎-elim (λ u. ⊎-elim inl (λ t. inr (t .0, some (t .0) (t .1), t .2)) (p .exact x .0 u)) (λ row. inr (s, this, row)) (more .2 x mem),
-  subst (λ k. k < length (more .0)) e (more .3),
+pub too-many-since : {rows₀ : List Row} {count₀ : ℕ} {rows : List Row} {count : ℕ} (D E : Choices → Type 0) → Progress rows₀ count₀ rows count D → ((s : Choices) → D s → E s)
+    → (P : Part → Type 0) → ((x : Part) → P x → (s : Choices) × E s × Row-of s x) → More-than (capacity rows) (λ x. In-use rows count x ⊎ P x) → Too-many rows₀ count₀ E
+too-many-since {rows₀} {count₀} {rows} {count} D E p into P rows-of t = (
+  t .0,
+  t .1,
+  λ x mem. ⊎-elim (λ u. ⊎-elim inl (λ d. inr (d .0, into (d .0) (d .1), d .2)) (p .exact x .0 u)) (λ w. inr (rows-of x w)) (t .2 x mem),
+  omega (arith, t .3, p .long),
 )

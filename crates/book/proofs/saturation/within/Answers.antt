@@ -16,5 +16,6 @@ saturate-requires g c κs =
       holding = λ k lt. omega (arith, c .wipe .ensures .zero k lt);
       used = omega (arith, c .facts .ensures);
       few = c .pre .few;
-      facts = λ k lt. omega (arith, c .pre .facts k lt, c .facts .ensures);
+      facts = c .pre .facts;
+      zero = c .wipe .ensures .zero;
     }
