@@ -1,12 +1,14 @@
+ghost use mathlib.Core.Logic.{_≢_};
 ghost use mathlib.Core.Path.{_≡_};
 ghost use Prim.Native.Nat.{_+_, _<_, _≤_, min};
+ghost use lib.Dec.{T};
 ghost use lib.ListN.{length};
 ghost use denote.Ref.{now, name};
 ghost use Rattle.register.specs.Chains.{Indexed};
 ghost use Rattle.diagrams.specs.Diagram.{Sound, position-of, row-hash};
 ghost use Rattle.diagrams.specs.Books.{Kept-book, capacity, union-or-intersection};
 ghost use Rattle.diagrams.specs.Making.{child};
-ghost use Rattle.diagrams.specs.Applying.{Extends, Fit, Makes, Applies, Shortens, Step};
+ghost use Rattle.diagrams.specs.Applying.{row-with, Extends, Fit, Makes, Applies, Shortens, Step};
 ghost use Rattle.diagrams.specs.declared.Operation.the-variants.{Union as unionOf, Intersection as intersectionOf};
 ghost use Rattle.book.specs.Scratch.{Ready};
 use crate::scratch::Tables;
@@ -114,6 +116,25 @@ fn split(register: &Register<'_, Row>, a: u16, b: u16) -> Halved
     }
 }
 
+// Whether two halves are one set, so that no row is asked for.
+fn merge(without: u16, with: u16) -> bool
+    ensures yes { λ r. ⌜ (T r → without ≡ with) ⌝ }
+    ensures not { λ r. ⌜ ((T r → ⊥) → without ≢ with) ⌝ }
+{
+    without == with
+}
+
+fn row_of(position: u8, without: u16, with: u16) -> Row
+    ensures { λ r. ⌜ r ≡ row-with position without with ⌝ }
+{
+    let (low, high) = (without, with);
+    Row {
+        position,
+        without: low,
+        with: high,
+    }
+}
+
 // The number of the set whose halves at a position are given: the halves' own where they are one, else that of their row,
 // which is put behind the rows in use where it is new.
 pub fn make(
@@ -134,18 +155,10 @@ pub fn make(
     ensures room { λ _. ⌜ length (now (now (index .exit) .next)) ≡ length (now (now (index .entry) .next)) ⌝ }
     ensures made { λ r. ⌜ Makes (now (now (register .entry) .rows)) (now (register .entry) .count) (now (now (register .exit) .rows)) (now (register .exit) .count) position without with r ⌝ }
 {
-    if without == with {
+    if merge(without, with) {
         return Ok(without);
     }
-    match register.put(
-        index,
-        MOST_ROWS,
-        Row {
-            position,
-            without,
-            with,
-        },
-    ) {
+    match register.put(index, MOST_ROWS, row_of(position, without, with)) {
         Some(at) => Ok(at + 2),
         None => Err(NoRoom),
     }

@@ -1,5 +1,5 @@
 ghost use mathlib.Core.Path.{_≡_};
-ghost use Prim.Native.Nat.{_+_, _<_};
+ghost use Prim.Native.Nat.{_+_, _/_, _%_, _^_, _<_};
 ghost use denote.Ref.{now, name};
 ghost use Rattle.diagrams.specs.Diagram.{Sound, Canonical-rows, member};
 ghost use Rattle.diagrams.specs.Books.{opening, book-of};
@@ -17,6 +17,16 @@ pub const BLANK: Row = Row {
     with: 0,
 };
 
+// Where a choice goes on from a row.
+fn side(row: Row, choice: u16) -> u16
+    requires { ⌜ row .position < 16 ⌝ }
+    ensures with { λ r. ⌜ (choice / 2 ^ row .position % 2 ≡ 1 → r ≡ row .with) ⌝ }
+    ensures without { λ r. ⌜ ((choice / 2 ^ row .position % 2 ≡ 1 → ⊥) → r ≡ row .without) ⌝ }
+{
+    let chosen = (choice >> row.position) % 2 == 1;
+    if chosen { row.with } else { row.without }
+}
+
 // Follows the rows from a number to 0 or 1. Positions rise from row to row, so there are at most 16 of them.
 fn follow(rows: &[Row], count: u16, number: u16, choice: u16) -> bool
     requires sound { ⌜ Sound (now rows) count ⌝ }
@@ -25,12 +35,7 @@ fn follow(rows: &[Row], count: u16, number: u16, choice: u16) -> bool
 {
     let mut n = number;
     while n >= 2 {
-        let row = rows[(n - 2) as usize];
-        if (choice >> row.position) % 2 == 1 {
-            n = row.with;
-        } else {
-            n = row.without;
-        }
+        n = side(rows[(n - 2) as usize], choice);
     }
     n == 1
 }

@@ -40,6 +40,21 @@ fn bucket(buckets: usize, hash: u32) -> usize
     hash as usize & buckets.saturating_sub(1)
 }
 
+// A link, or the place that it may not pass: links only lead downwards, so that every walk ends.
+fn downwards(link: u16, place: u16) -> u16
+    ensures { λ r. ⌜ r ≡ min link place ⌝ }
+{
+    link.min(place)
+}
+
+// Whether no row may be put behind those in use.
+fn is_full(count: u16, most: u16, rows: usize, next: usize) -> bool
+    ensures yes { λ r. ⌜ (T r → min most (min rows next) ≤ count) ⌝ }
+    ensures not { λ r. ⌜ ((T r → ⊥) → (count < most) × (count < rows) × (count < next)) ⌝ }
+{
+    count >= most || count as usize >= rows || count as usize >= next
+}
+
 // The place of the row in use that is the same as the one given. It follows the chain of the row's bucket, so through an
 // index of these rows the end of the chain tells that the row is absent.
 fn find<R: Row>(rows: &[R], count: u16, heads: &[u16], next: &[u16], row: R) -> Option<u16>
@@ -51,13 +66,13 @@ fn find<R: Row>(rows: &[R], count: u16, heads: &[u16], next: &[u16], row: R) -> 
     if b >= heads.len() {
         return None;
     }
-    let mut link = heads[b].min(count);
+    let mut link = downwards(heads[b], count);
     while link > 0 {
         let at = link - 1;
         if rows[at as usize].matches(row) {
             return Some(at);
         }
-        link = next[at as usize].min(at);
+        link = downwards(next[at as usize], at);
     }
     None
 }
@@ -201,7 +216,7 @@ impl<'a, R: Row> Register<'a, R> {
         if let Some(i) = self.find(index, row) {
             return Some(i);
         }
-        if at >= most || at as usize >= self.rows.len() || at as usize >= index.next.len() {
+        if is_full(at, most, self.rows.len(), index.next.len()) {
             return None;
         }
         append(self.rows, at, row);

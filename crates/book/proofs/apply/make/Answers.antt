@@ -1,6 +1,8 @@
-use mathlib.Core.Path.{refl}
+use mathlib.Core.Path.{refl, subst}
 use borrow.Author.Needs.{needs}
-use Prim.Native.Nat.{_+_, _<_}
+use Prim.Native.Nat.{_+_, _<_, min}
+use lib.ListN.{length}
+use Rattle.register.specs.Rows.{Puts}
 use Rattle.std.specs.declared.option.Option.the-variants.{Some, None}
 use Rattle.diagrams.specs.Applying.{row-with}
 use Rattle.diagrams.proofs.MakingRows.{extends-same, made-same}
@@ -12,11 +14,12 @@ add-result c =
     let t = c .args .register .now in
     let u = c .put .last .self in
     let p = c .in-Some .ensures tt .put (c .pre .indexed) in
-    let small : c .in-Some .at + 2 < 65536 = place-small (t .rows .now) (t .count) (c .args .index .now .next .now) (row-with (c .args .position) (c .args .without) (c .args .with)) (u .rows .now) (u .count) (c .in-Some .at) (c .pre .kept) (p .puts) in
+    let puts = subst (λ w. Puts (min 65534 (min (length (t .rows .now)) (length (c .args .index .now .next .now)))) (t .rows .now) (t .count) w (u .rows .now) (u .count) (Some (c .in-Some .at))) (c .row-of .ensures) (p .puts) in
+    let small : c .in-Some .at + 2 < 65536 = place-small (t .rows .now) (t .count) (c .args .index .now .next .now) (row-with (c .args .position) (c .args .without) (c .args .with)) (u .rows .now) (u .count) (c .in-Some .at) (c .pre .kept) puts in
     search needs
 
-pub returns-then-without-with : need.returns-then-without-with
-returns-then-without-with c =
+pub returns-then-merge : need.returns-then-merge
+returns-then-merge c =
     let t = c .args .register .now in
     record {
       held = refl;
@@ -24,7 +27,7 @@ returns-then-without-with c =
       extends = extends-same (t .rows .now) (t .count) (c .pre .kept);
       indexed = c .pre .indexed;
       room = refl;
-      made = made-same (t .rows .now) (t .count) (c .args .position) (c .args .without) (c .args .with) (c .if-without-with .taken);
+      made = made-same (t .rows .now) (t .count) (c .args .position) (c .args .without) (c .args .with) (c .if-merge .ensures tt .yes tt);
     }
 
 pub returns-in-Some : need.returns-in-Some
@@ -33,13 +36,14 @@ returns-in-Some c =
     let u = c .put .last .self in
     let next = c .args .index .now .next .now in
     let p = c .in-Some .ensures tt .put (c .pre .indexed) in
+    let puts = subst (λ w. Puts (min 65534 (min (length (t .rows .now)) (length (c .args .index .now .next .now)))) (t .rows .now) (t .count) w (u .rows .now) (u .count) (Some (c .in-Some .at))) (c .row-of .ensures) (p .puts) in
     record {
       held = c .put .ensures .held;
       names = c .put .ensures .names;
-      extends = put-extends (t .rows .now) (t .count) next (c .args .position) (c .args .without) (c .args .with) (c .pre .kept) (c .pre .fit) (c .if-without-with .left) (c .pre .room) (u .rows .now) (u .count) (Some (c .in-Some .at)) (p .puts);
+      extends = put-extends (t .rows .now) (t .count) next (c .args .position) (c .args .without) (c .args .with) (c .pre .kept) (c .pre .fit) (c .if-merge .ensures tt .not (λ t. t)) (c .pre .room) (u .rows .now) (u .count) (Some (c .in-Some .at)) puts;
       indexed = p .indexed;
       room = p .next-long;
-      made = put-makes (t .rows .now) (t .count) next (c .args .position) (c .args .without) (c .args .with) (c .pre .kept) (c .pre .fit) (c .if-without-with .left) (c .pre .room) (u .rows .now) (u .count) (c .in-Some .at) (p .puts);
+      made = put-makes (t .rows .now) (t .count) next (c .args .position) (c .args .without) (c .args .with) (c .pre .kept) (c .pre .fit) (c .if-merge .ensures tt .not (λ t. t)) (c .pre .room) (u .rows .now) (u .count) (c .in-Some .at) puts;
     }
 
 pub returns-in-None : need.returns-in-None
@@ -48,11 +52,12 @@ returns-in-None c =
     let u = c .put .last .self in
     let next = c .args .index .now .next .now in
     let p = c .in-None .ensures tt .put (c .pre .indexed) in
+    let puts = subst (λ w. Puts (min 65534 (min (length (t .rows .now)) (length (c .args .index .now .next .now)))) (t .rows .now) (t .count) w (u .rows .now) (u .count) None) (c .row-of .ensures) (p .puts) in
     record {
       held = c .put .ensures .held;
       names = c .put .ensures .names;
-      extends = put-extends (t .rows .now) (t .count) next (c .args .position) (c .args .without) (c .args .with) (c .pre .kept) (c .pre .fit) (c .if-without-with .left) (c .pre .room) (u .rows .now) (u .count) None (p .puts);
+      extends = put-extends (t .rows .now) (t .count) next (c .args .position) (c .args .without) (c .args .with) (c .pre .kept) (c .pre .fit) (c .if-merge .ensures tt .not (λ t. t)) (c .pre .room) (u .rows .now) (u .count) None puts;
       indexed = p .indexed;
       room = p .next-long;
-      made = put-makes-none (t .rows .now) (t .count) next (c .args .position) (c .args .without) (c .args .with) (c .pre .kept) (c .pre .fit) (c .if-without-with .left) (c .pre .room) (u .rows .now) (u .count) _ (p .puts);
+      made = put-makes-none (t .rows .now) (t .count) next (c .args .position) (c .args .without) (c .args .with) (c .pre .kept) (c .pre .fit) (c .if-merge .ensures tt .not (λ t. t)) (c .pre .room) (u .rows .now) (u .count) _ puts;
     }
