@@ -137,7 +137,7 @@ fn row_of(position: u8, without: u16, with: u16) -> Row
 
 // The number of the set whose halves at a position are given: the halves' own where they are one, else that of their row,
 // which is put behind the rows in use where it is new.
-pub fn make(
+pub(crate) fn make(
     register: &mut Register<'_, Row>,
     index: &mut Index<'_>,
     position: u8,
@@ -166,7 +166,7 @@ pub fn make(
 
 // The number of the union or the intersection of two held numbers. Short cuts first, then a result computed before; only
 // then the rows: both halves at the first position that either number asks for, and the row of the two.
-pub fn apply(
+pub(crate) fn apply(
     register: &mut Register<'_, Row>,
     index: &mut Index<'_>,
     tables: &mut Tables<'_>,

@@ -18,7 +18,7 @@ fn are_facts(facts: u16, numbers: &[u16]) -> bool
 }
 
 // The first check that fails, of those before the rows.
-pub fn first_fault(
+pub(crate) fn first_fault(
     facts: u16,
     limit: usize,
     predicates: &[u16],

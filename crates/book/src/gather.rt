@@ -23,7 +23,7 @@ use theory::Conclusion;
 use theory::Rule;
 
 // Unites what a slot has gathered with the set of a number.
-pub fn gather(
+pub(crate) fn gather(
     register: &mut Register<'_, Row>,
     index: &mut Index<'_>,
     tables: &mut Tables<'_>,
@@ -52,7 +52,7 @@ pub fn gather(
 }
 
 // The choices that have a position, united with what its predicate has gathered.
-pub fn gather_position(
+pub(crate) fn gather_position(
     register: &mut Register<'_, Row>,
     index: &mut Index<'_>,
     tables: &mut Tables<'_>,
@@ -131,7 +131,7 @@ fn slot_of(facts: u16, rule: Rule) -> usize
 }
 
 // One place: what the premises of its rule have together is united with what its conclusion has gathered.
-pub fn derive(
+pub(crate) fn derive(
     register: &mut Register<'_, Row>,
     index: &mut Index<'_>,
     tables: &mut Tables<'_>,

@@ -226,7 +226,7 @@ fn saturate<T: Theory>(
 
 // The tables of a question lie on the stack; their sizes are chosen by the caller, so that a small question does not pay
 // for the largest.
-pub fn within<T: Theory, const HEADS: usize, const ROWS: usize, const PAIRS: usize>(
+pub(crate) fn within<T: Theory, const HEADS: usize, const ROWS: usize, const PAIRS: usize>(
     theory: &T,
     register: &mut Register<'_, Row>,
     predicates: &[u16],

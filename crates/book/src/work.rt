@@ -13,7 +13,7 @@ pub struct Work<'a> {
 }
 
 // Zeroes the numbers in front.
-pub fn wipe(numbers: &mut [u32], used: usize)
+pub(crate) fn wipe(numbers: &mut [u32], used: usize)
     requires { ⌜ used ≤ length (now numbers) ⌝ }
     ensures zero { λ _. ⌜ ZeroBelow (now (numbers .exit)) used ⌝ }
     ensures rest { λ _. ⌜ SameFrom used (now (numbers .entry)) (now (numbers .exit)) ⌝ }

@@ -4,7 +4,7 @@ ghost use lib.ListN.{length, getD};
 use book::Book;
 
 // How many choices over the first positions belong to a number.
-pub fn count(book: &Book<'_>, number: u16, positions: u32) -> u32
+pub(crate) fn count(book: &Book<'_>, number: u16, positions: u32) -> u32
     requires { ⌜ positions ≤ 16 ⌝ }
     ensures { λ r. ⌜ r ≤ 65536 ⌝ }
 {
@@ -18,7 +18,7 @@ pub fn count(book: &Book<'_>, number: u16, positions: u32) -> u32
 }
 
 // The place of the first number that is equal to the one given, or the length where there is none.
-pub fn first_equal(numbers: &[u16], number: u16) -> usize
+pub(crate) fn first_equal(numbers: &[u16], number: u16) -> usize
     ensures within { λ r. ⌜ r ≤ length (now (numbers .entry)) ⌝ }
     ensures before { λ r. ⌜ ((k : ℕ) → k < r → getD (now (numbers .entry)) k 0 ≡ number → ⊥) ⌝ }
     ensures found { λ r. ⌜ (r < length (now (numbers .entry)) → getD (now (numbers .entry)) r 0 ≡ number) ⌝ }

@@ -58,7 +58,7 @@ pub impl Stated for Differences as StatedDifferences {
 }
 
 // The facts of the pending predicates, in their order.
-pub fn predicates_of<T: Stated>(theory: &T, pending: &Pending) -> Result<[u16; 16], Fault> {
+pub(crate) fn predicates_of<T: Stated>(theory: &T, pending: &Pending) -> Result<[u16; 16], Fault> {
     let mut facts = [0u16; 16];
     for k in 0..16 {
         if let Some(statement) = pending.predicate(k) {
@@ -69,7 +69,7 @@ pub fn predicates_of<T: Stated>(theory: &T, pending: &Pending) -> Result<[u16; 1
 }
 
 // The facts of the pending goals, in their order.
-pub fn goals_of<T: Stated>(theory: &T, pending: &Pending) -> Result<[u16; 8], Fault> {
+pub(crate) fn goals_of<T: Stated>(theory: &T, pending: &Pending) -> Result<[u16; 8], Fault> {
     let mut facts = [0u16; 8];
     for k in 0..8 {
         if let Some(statement) = pending.goal(k) {
