@@ -1,3 +1,4 @@
+#![tactic(auto)]
 mod apply;
 mod book;
 mod calls;

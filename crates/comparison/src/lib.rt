@@ -1,3 +1,4 @@
+#![tactic(auto)]
 // One book for several theories: three questions with a refused one between them, an abstraction and two joins, and then
 // which of the answers are equal. It puts to use what is proved of whole runs, as a tool would that compares answers.
 ghost use Rattle.std.specs.Prelude.{◌≡◌, List, MatchResult};

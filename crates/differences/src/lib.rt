@@ -1,3 +1,4 @@
+#![tactic(auto)]
 ghost use Rattle.std.specs.Prelude.{◌≡◌, ◌+◌, ◌-◌, ◌<◌, ◌≤◌, MatchOption, MatchResult};
 ghost use Rattle.theory.specs.declared.faults.TheoryFault.TheVariants.{TooManyVariables};
 ghost use Rattle.theory.specs.Theory.{Lawful};

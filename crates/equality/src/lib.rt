@@ -1,3 +1,5 @@
+#![tactic(auto)]
+
 use register::Row;
 
 // A term: a symbol, how many arguments it has, and the numbers of these, of which an unused one is 0.

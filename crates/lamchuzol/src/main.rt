@@ -1,3 +1,4 @@
+#![tactic(auto)]
 use book::Book;
 use diagrams::Row;
 use equality::Term;

@@ -1,3 +1,5 @@
+#![tactic(auto)]
+
 ghost use Rattle.std.specs.Prelude.{◌≡◌, ℕ, ◌+◌, ◌<◌, ◌≤◌, min, T, length, slice_index, slice_set};
 ghost use Rattle.register.specs.Rows.{Finds, Puts, Cleared};
 ghost use Rattle.register.specs.Chains.{bucket as bucketOf, Indexed, Put};

@@ -1,3 +1,4 @@
+#![tactic(auto)]
 // Whole runs of calls on a book: what holds of the numbers that it has given.
 ghost use Rattle.std.specs.Prelude.{◌≡◌, ℕ, ◌<◌, ◌≤◌, length, ◌≢◌, slice_index};
 ghost use Rattle.runs.specs.Statements.{EqualNumbersEqualChoices, GivenNumbersRead, QuestionRefusedWhenFull, JoinRefusedWhenFull, OnlyNumbersAreFree, FirstSame};

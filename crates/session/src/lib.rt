@@ -1,3 +1,4 @@
+#![tactic(auto)]
 mod answers;
 mod faults;
 mod session;

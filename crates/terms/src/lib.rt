@@ -1,3 +1,4 @@
+#![tactic(auto)]
 mod equal;
 mod faults;
 mod rules;

@@ -1,3 +1,5 @@
+#![tactic(auto)]
+
 ghost use Rattle.std.specs.Prelude.{◌≡◌, ℕ, Bool, List, ℤ, Option};
 ghost use Rattle.theory.specs.declared.Rule.{Rule};
 ghost use Rattle.theory.specs.Theory.{Lawful};

@@ -1,3 +1,4 @@
+#![tactic(auto)]
 mod files;
 mod library;
 mod limits;

@@ -1,3 +1,4 @@
+#![tactic(auto)]
 mod asking;
 mod choices;
 mod deadlines;
