@@ -5,9 +5,9 @@ use Rattle.potentials.proofs.Rules.{sum_is, no_sum}
 use Rattle.differences.proofs.Sums.{sum_same}
 use Rattle.differences.proofs.sum_rule.Goals as goal
 
-pub returns-in-default : goal.returns-in-default
+pub returns-in_default : goal.returns-in_default
 unfolding first second
-returns-in-default c = sym (no_sum _ (first _ _) (second _ _) c.in-default.ensures)
+returns-in_default c = sym (no_sum _ (first _ _) (second _ _) c.in_default.ensures)
 
 pub number-requires : goal.number-requires
 number-requires c = (c.requires.0, subst (Within c.args.v) (sym c.premises.ensures.one) (first_within _ _ c.requires.1))

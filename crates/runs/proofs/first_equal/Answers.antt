@@ -5,12 +5,12 @@ use Rattle.runs.proofs.first_equal.Goals as goal
 
 pub returns : goal.returns
 returns c =
-    let e = c.place-of.ensures in
+    let e = c.place_of.ensures in
     record {
       within = e.within;
       before = e.before;
       found = e.found;
-      choices = first_same c.args.numbers.now c.args.number c.place-of.result e.within e.before e.found;
+      choices = first_same c.args.numbers.now c.args.number c.place_of.result e.within e.before e.found;
       equal_numbers_equal_choices = equal_numbers_equal_choices;
       given_numbers_read = given_numbers_read;
       question_refused_when_full = question_refused_when_full;

@@ -31,7 +31,7 @@ returns-in-Some-recall t c =
       tables = (refl, refl);
       extends = extends_same b.rows.now b.count k;
       ready = c.requires.ready;
-      applied = recalled c.args.op b.rows.now b.count k.sound _ c.args.a c.args.b c.in-Some-recall.n c.in-default.ensures.0 c.in-default.ensures.1
+      applied = recalled c.args.op b.rows.now b.count k.sound _ c.args.a c.args.b c.in-Some-recall.n c.in_default.ensures.0 c.in_default.ensures.1
           (table_right c.args.op b.rows.now b.count x.heads.now x.next.now w.unions.now w.intersections.now c.requires.ready) c.in-Some-recall.ensures;
     }
 

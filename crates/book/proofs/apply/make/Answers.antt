@@ -10,7 +10,7 @@ overflow-add-result c =
     let t = c.args.register.now in
     let u = c.put.new.self in
     let p = c.in-Some.ensures.put c.requires.indexed in
-    let puts = subst (λ w. Puts (min 65534 (min (length t.rows.now) (length c.args.index.now.next.now))) t.rows.now t.count w u.rows.now u.count (Some c.in-Some.at)) c.row-of.ensures p.puts in
+    let puts = subst (λ w. Puts (min 65534 (min (length t.rows.now) (length c.args.index.now.next.now))) t.rows.now t.count w u.rows.now u.count (Some c.in-Some.at)) c.row_of.ensures p.puts in
     let small : c.in-Some.at + 2 < 65536 = place_small t.rows.now t.count c.args.index.now.next.now (row_with c.args.position c.args.without c.args.with) u.rows.now u.count c.in-Some.at c.requires.kept puts in
     search rules
 
@@ -32,7 +32,7 @@ returns-in-Some c =
     let u = c.put.new.self in
     let next = c.args.index.now.next.now in
     let p = c.in-Some.ensures.put c.requires.indexed in
-    let puts = subst (λ w. Puts (min 65534 (min (length t.rows.now) (length c.args.index.now.next.now))) t.rows.now t.count w u.rows.now u.count (Some c.in-Some.at)) c.row-of.ensures p.puts in
+    let puts = subst (λ w. Puts (min 65534 (min (length t.rows.now) (length c.args.index.now.next.now))) t.rows.now t.count w u.rows.now u.count (Some c.in-Some.at)) c.row_of.ensures p.puts in
     record {
       held = c.put.ensures.held;
       names = c.put.ensures.names;
@@ -48,7 +48,7 @@ returns-in-None c =
     let u = c.put.new.self in
     let next = c.args.index.now.next.now in
     let p = c.in-None.ensures.put c.requires.indexed in
-    let puts = subst (λ w. Puts (min 65534 (min (length t.rows.now) (length c.args.index.now.next.now))) t.rows.now t.count w u.rows.now u.count None) c.row-of.ensures p.puts in
+    let puts = subst (λ w. Puts (min 65534 (min (length t.rows.now) (length c.args.index.now.next.now))) t.rows.now t.count w u.rows.now u.count None) c.row_of.ensures p.puts in
     record {
       held = c.put.ensures.held;
       names = c.put.ensures.names;

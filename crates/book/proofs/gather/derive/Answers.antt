@@ -47,6 +47,6 @@ returns c =
           let same : slot m.facts x ≡ slot c.args.facts x = ap (λ z. slot z x) e in
           let low = slot_below m.facts x (concluded_known m.facts c.args.rule names) in
           place_gathered m S i h c.args.rule at names (c.in-ok-together.ensures.meets m.facts S names h.olds)
-          (c.args.facts + 1 + c.slot-of.result) (omega (arith, e, same, c.slot-of.ensures)) (omega (arith, e, same, c.slot-of.ensures, low, c.requires.used, w.within))
+          (c.args.facts + 1 + c.slot_of.result) (omega (arith, e, same, c.slot_of.ensures)) (omega (arith, e, same, c.slot_of.ensures, low, c.requires.used, w.within))
           u.rows.now u.count c.gather.new.work.numbers.now c.gather.result g.gathers;
     }

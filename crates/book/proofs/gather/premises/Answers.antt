@@ -5,8 +5,8 @@ use Rattle.diagrams.proofs.MakingRows.{extends_same}
 use Rattle.book.proofs.Meeting.{asked_named, none_meet, both_meet, made_held}
 use Rattle.book.proofs.gather.premises.Goals as goal
 
-pub returns-in-default : goal.returns-in-default
-returns-in-default c =
+pub returns-in_default : goal.returns-in_default
+returns-in_default c =
     let t = c.args.register.now in
     let k = c.requires.ready.kept in
     record {
@@ -16,7 +16,7 @@ returns-in-default c =
       extends = extends_same t.rows.now t.count k;
       ready = c.requires.ready;
       held = omega arith;
-      meets = none_meet t.rows.now t.count k.sound c.args.work.now.numbers.now c.args.rule (sym c.asked_for.ensures ∙ c.in-default.is);
+      meets = none_meet t.rows.now t.count k.sound c.args.work.now.numbers.now c.args.rule (sym c.asked_for.ensures ∙ c.in_default.is);
     }
 
 pub standing-left-requires : goal.standing-left-requires

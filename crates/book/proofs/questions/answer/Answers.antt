@@ -38,16 +38,16 @@ returns-in-Err g c =
     let q = ask c.args.predicates.now c.args.goals.now in
     let t = c.args.register.now in
     let u = c.sized.new.register in
-    let v = c.give-back.new.register in
+    let v = c.give_back.new.register in
     let e = c.sized.ensures.extends in
-    let b = c.give-back.ensures.cleared e.more in
+    let b = c.give_back.ensures.cleared e.more in
     let full : RefusedFull (book_of t.rows.now t.count) (book_of v.rows.now t.count) (WorkingRow m q) = record {
       too_many = c.in-Err.ensures.saturates;
       keeps = keeps_back t.rows.now t.count u.rows.now u.count e c.requires.kept.sound v.rows.now b.0;
       as_before = refl;
     } in
     record {
-      register = c.give-back.ensures.held ∙ c.sized.ensures.register;
+      register = c.give_back.ensures.held ∙ c.sized.ensures.register;
       kept = subst (KeptBook v.rows.now) (sym b.1) (kept_back t.rows.now t.count u.rows.now u.count e c.requires.kept.sound v.rows.now b.0);
       asked = (refl, subst (λ z. RefusedFull (book_of t.rows.now t.count) (book_of v.rows.now z) (WorkingRow m q)) (sym b.1) full);
       zero = c.sized.ensures.zero;

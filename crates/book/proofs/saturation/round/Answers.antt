@@ -15,8 +15,8 @@ loop-place-init g c =
       λ S h. round_begins (meaning g.T.Theory c.args.theory.now) S t.rows.now t.count w.numbers.now c.requires.ready.kept.sound h,
     )
 
-pub loop-place-preserved-in-default : goal.loop-place-preserved-in-default
-loop-place-preserved-in-default g c =
+pub loop-place-preserved-in_default : goal.loop-place-preserved-in_default
+loop-place-preserved-in_default g c =
     let m = meaning g.T.Theory c.args.theory.now in
     let t = c.args.register.now in
     let u = c.loop-place.register in
@@ -24,7 +24,7 @@ loop-place-preserved-in-default g c =
     let k = c.loop-place.place in
     let one : suc k ≡ k + 1 = omega arith in (
       s.0,
-      λ S h. subst (λ z. InRound m S z t.rows.now t.count u.rows.now u.count c.loop-place.work.numbers.now) one (place_empty m S k (s.1 S h) (sym c.rule.ensures ∙ c.in-default.is)),
+      λ S h. subst (λ z. InRound m S z t.rows.now t.count u.rows.now u.count c.loop-place.work.numbers.now) one (place_empty m S k (s.1 S h) (sym c.rule.ensures ∙ c.in_default.is)),
     )
 
 pub returns-in-err-derive : goal.returns-in-err-derive

@@ -17,10 +17,10 @@ loop-gaining-init g c = (
 pub returns-in-err-changed : goal.returns-in-err-changed
 returns-in-err-changed g c =
     let m = meaning g.T.Theory c.args.theory.now in
-    let d = c.next-round.ensures in
+    let d = c.next_round.ensures in
     let s = c.loop-gaining.invariant in
     let k = c.loop-gaining.gaining in
-    let n = c.next-round.new in
+    let n = c.next_round.new in
     let step = carried_on {t' = n.register} {x' = n.index} {b' = n.tables} {w' = n.work} s.0 (record { register = d.register; heads = d.index.0; next = d.index.1; unions = d.tables.0; intersections = d.tables.1; work = record { numbers = d.work.0; used = d.work.1; rest = d.rest }; extends = d.extends; ready = d.ready; holding = d.holding }) in
     record {
       register = step.register;
@@ -37,14 +37,14 @@ returns-in-err-changed g c =
 pub returns-then-not-changed : goal.returns-then-not-changed
 returns-then-not-changed g c =
     let m = meaning g.T.Theory c.args.theory.now in
-    let d = c.next-round.ensures in
+    let d = c.next_round.ensures in
     let r = c.args.register.now in
     let t = c.loop-gaining.register in
-    let u = c.next-round.new.register in
-    let w = c.next-round.new.work.numbers.now in
+    let u = c.next_round.new.register in
+    let w = c.next_round.new.work.numbers.now in
     let s = c.loop-gaining.invariant in
     let k = c.loop-gaining.gaining in
-    let n = c.next-round.new in
+    let n = c.next_round.new in
     let step = carried_on {t' = n.register} {x' = n.index} {b' = n.tables} {w' = n.work} s.0 (record { register = d.register; heads = d.index.0; next = d.index.1; unions = d.tables.0; intersections = d.tables.1; work = record { numbers = d.work.0; used = d.work.1; rest = d.rest }; extends = d.extends; ready = d.ready; holding = d.holding }) in
     record {
       register = step.register;
@@ -66,11 +66,11 @@ returns-then-not-changed g c =
 pub loop-gaining-preserved : goal.loop-gaining-preserved
 loop-gaining-preserved g c =
     let m = meaning g.T.Theory c.args.theory.now in
-    let d = c.next-round.ensures in
+    let d = c.next_round.ensures in
     let r = c.args.register.now in
     let t = c.loop-gaining.register in
-    let u = c.next-round.new.register in
-    let w = c.next-round.new.work.numbers.now in
+    let u = c.next_round.new.register in
+    let w = c.next_round.new.work.numbers.now in
     let s = c.loop-gaining.invariant in
     let k = c.loop-gaining.gaining in
     let one : suc k ≡ k + 1 = omega arith in (

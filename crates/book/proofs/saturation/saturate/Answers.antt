@@ -12,21 +12,21 @@ use Rattle.book.proofs.saturation.saturate.Goals as goal
 
 pub rounds-requires : goal.rounds-requires
 rounds-requires g c =
-    let s = c.start-predicates.ensures in
-    let n = c.start-predicates.new.register.count in
+    let s = c.start_predicates.ensures in
+    let n = c.start_predicates.new.register.count in
     record {
       ready = s.ready;
-      holding = c.begin.ensures.holding n (c.start-goals.ensures.holding n s.holding);
+      holding = c.begin.ensures.holding n (c.start_goals.ensures.holding n s.holding);
       facts = c.facts-facts.ensures;
-      used = omega (arith, c.begin.ensures.work.1, c.start-goals.ensures.work.1, s.work.1, c.requires.used, c.facts-facts.ensures);
+      used = omega (arith, c.begin.ensures.work.1, c.start_goals.ensures.work.1, s.work.1, c.requires.used, c.facts-facts.ensures);
     }
 
-pub returns-in-err-start-predicates : goal.returns-in-err-start-predicates
-returns-in-err-start-predicates g c =
+pub returns-in-err-start_predicates : goal.returns-in-err-start_predicates
+returns-in-err-start_predicates g c =
     let m = meaning g.T.Theory c.args.theory.now in
     let q = ask c.args.predicates.now c.args.goals.now in
     let t = c.args.register.now in
-    let s = c.start-predicates.ensures in
+    let s = c.start_predicates.ensures in
     record {
       register = s.register;
       index = s.index;
@@ -35,7 +35,7 @@ returns-in-err-start-predicates g c =
       extends = s.extends;
       rest = s.rest;
       saturates = failed c.from-residual.result c.from-residual.ensures.0 _ _
-          (start_full m q (g.T.Theory.lawful c.args.theory.now) t.rows.now t.count (c.in-err-start-predicates.ensures.starts m.facts c.requires.facts (λ k lt. c.requires.zero k (omega (arith, lt, c.requires.used)))));
+          (start_full m q (g.T.Theory.lawful c.args.theory.now) t.rows.now t.count (c.in-err-start_predicates.ensures.starts m.facts c.requires.facts (λ k lt. c.requires.zero k (omega (arith, lt, c.requires.used)))));
     }
 
 pub returns : goal.returns
@@ -45,14 +45,14 @@ returns g c =
     let gs = c.args.goals.now in
     let q = ask ps gs in
     let l = g.T.Theory.lawful c.args.theory.now in
-    let s = c.start-predicates.ensures in
-    let o = c.start-goals.ensures in
+    let s = c.start_predicates.ensures in
+    let o = c.start_goals.ensures in
     let b = c.begin.ensures in
     let r = c.rounds.ensures in
-    let t = c.start-predicates.new.register in
+    let t = c.start_predicates.new.register in
     let u = c.rounds.new.register in
-    let w = c.start-goals.new.work.numbers.now in
-    let at = c.in-ok-start-predicates.ensures.starts m.facts c.requires.facts (λ k lt. c.requires.zero k (omega (arith, lt, c.requires.used))) in
+    let w = c.start_goals.new.work.numbers.now in
+    let at = c.in-ok-start_predicates.ensures.starts m.facts c.requires.facts (λ k lt. c.requires.zero k (omega (arith, lt, c.requires.used))) in
     let olds : Half m.facts t.rows.now t.count (first_half w) (λ z. start m q z) = starts m ps gs t.rows.now t.count (first_half w) (o.opposes (started ps (lib.ListN.length ps)) t.rows.now t.count at.olds) in
     let halves : BothHalves m.facts t.rows.now t.count c.begin.new.work.numbers.now (λ z. start m q z) =
     halves_begin m.facts (λ z. start m q z) olds (subst (λ z. Begun z w c.begin.new.work.numbers.now) c.facts-facts.ensures b.begun) in

@@ -10,8 +10,8 @@ use Rattle.book.proofs.saturation.start_goals.Goals as goal
 pub loop-goal-init : goal.loop-goal-init
 loop-goal-init g c = (same_work c.args.work.now, λ count h. h, λ S rows count h. goals_begin (meaning g.T.Theory c.args.theory.now) c.args.goals.now S rows count c.args.work.now.numbers.now h)
 
-pub loop-goal-preserved-in-default : goal.loop-goal-preserved-in-default
-loop-goal-preserved-in-default g c =
+pub loop-goal-preserved-in_default : goal.loop-goal-preserved-in_default
+loop-goal-preserved-in_default g c =
     let m = meaning g.T.Theory c.args.theory.now in
     let goals = c.args.goals.now in
     let w = c.loop-goal.work in
@@ -21,7 +21,7 @@ loop-goal-preserved-in-default g c =
       s.0,
       s.1,
       λ S rows count h. subst (λ z. Half m.facts rows count (first_half w.numbers.now) (opposed m goals z S)) one
-          (goal_without m goals S rows count w.numbers.now j (s.2 S rows count h) (sym c.denied.ensures ∙ c.in-default.is)),
+          (goal_without m goals S rows count w.numbers.now j (s.2 S rows count h) (sym c.denied.ensures ∙ c.in_default.is)),
     )
 
 pub bounds-work-opposite : goal.bounds-work-opposite

@@ -27,9 +27,9 @@ pub returns-in-Err : goal.returns-in-Err
 returns-in-Err c =
     let t = c.args.register.now in
     let u = c.sized.new.register in
-    let v = c.give-back.new.register in
+    let v = c.give_back.new.register in
     let e = c.sized.ensures.extends in
-    let b = c.give-back.ensures.cleared e.more in
+    let b = c.give_back.ensures.cleared e.more in
     let s = union_or_intersection c.args.op t.rows.now c.args.left c.args.right in
     let full : RefusedFull (book_of t.rows.now t.count) (book_of v.rows.now t.count) (RowOf s) = record {
       too_many = c.in-Err.ensures.applied;
@@ -37,7 +37,7 @@ returns-in-Err c =
       as_before = refl;
     } in
     record {
-      held = c.give-back.ensures.held ∙ c.sized.ensures.held;
+      held = c.give_back.ensures.held ∙ c.sized.ensures.held;
       kept = subst (KeptBook v.rows.now) (sym b.1) (kept_back t.rows.now t.count u.rows.now u.count e c.requires.sound v.rows.now b.0);
       joins = (omega arith, omega arith, subst (λ z. RefusedFull (book_of t.rows.now t.count) (book_of v.rows.now z) (RowOf s)) (sym b.1) full);
     }

@@ -10,4 +10,4 @@ pub returns-then-place-sums : goal.returns-then-place-sums
 returns-then-place-sums c = c.sum_rule.ensures ∙ sym (rule_of_sum _ _ c.if-place-sums.true)
 
 pub returns : goal.returns
-returns c = c.loop-rule.ensures ∙ sym (rule_of_loop _ _ c.if-place-sums.false)
+returns c = c.loop_rule.ensures ∙ sym (rule_of_loop _ _ c.if-place-sums.false)

@@ -13,11 +13,11 @@ returns c =
     let at : List ℕ = before ++ codes "at" in
     let n-short = length-decimal-le 3 c.args.number (lit< tt) (omega arith) (omega arith) in
     let p-short = length-decimal-le 20 c.args.place (lit< tt) (omega arith) (omega arith) in
-    let one = c.push-spaced-refusal.ensures refused c.refused.ensures (omega arith) (omega arith) in
+    let one = c.push_spaced-refusal.ensures refused c.refused.ensures (omega arith) (omega arith) in
     let two = c.push.ensures (refused ++ space ++ n) one (simp length-append (omega arith)) in
     let three = c.push-2.ensures before two (simp length-append (omega arith)) in
     let four = c.push-at.ensures (before ++ (97 ∷ [])) three (simp length-append (omega arith)) in
     let word = four ∙ ap line_of (append_assoc before (97 ∷ []) (116 ∷ [])) in
-    let five = c.push-spaced.ensures at word (simp length-append (omega arith)) (simp length-append (omega arith)) in
+    let five = c.push_spaced.ensures at word (simp length-append (omega arith)) (simp length-append (omega arith)) in
     let six = c.push-3.ensures (at ++ space ++ p) five (simp length-append (omega arith)) in
     record { text = six; room = rw six (simp length-append (omega arith)) }

@@ -18,11 +18,11 @@ answer-requires g c =
     let ps = c.args.predicates.now in
     let gs = c.args.goals.now in
     let long = length c.args.work.now in
-    let none : first_fault facts 8 ps gs long ≡ None = ap (λ z. first_fault z 8 ps gs long) (sym c.facts.ensures) ∙ sym c.first_fault.ensures ∙ c.in-default.is in
+    let none : first_fault facts 8 ps gs long ≡ None = ap (λ z. first_fault z 8 ps gs long) (sym c.facts.ensures) ∙ sym c.first_fault.ensures ∙ c.in_default.is in
     let p = no_fault facts 8 ps gs long none in
     let m = meaning g.T.Theory c.args.theory.now in
     let n : 2 * length ps - 0 ≡ 2 * length ps = omega arith in
-    let pairs : take (2 * length ps - 0) c.with-opposites-pairs.result ≡ with_opposites m ps = ap (λ z. take z c.with-opposites-pairs.result) n ∙ c.with-opposites-pairs.ensures in
+    let pairs : take (2 * length ps - 0) c.with_opposites-pairs.result ≡ with_opposites m ps = ap (λ z. take z c.with_opposites-pairs.result) n ∙ c.with_opposites-pairs.ensures in
     record {
       kept = kept_out c.args.self.now.lent.rows.now c.args.self.now.lent.count c.args.self.now.kept;
       used = p.long;
@@ -44,11 +44,11 @@ returns g c =
     let t = c.answer.new.register in
     let b₀ = book_of b.rows.now b.count in
     let b₁ = book_of t.rows.now t.count in
-    let none : first_fault facts 8 ps gs (length work) ≡ None = ap (λ z. first_fault z 8 ps gs (length work)) (sym c.facts.ensures) ∙ sym c.first_fault.ensures ∙ c.in-default.is in
+    let none : first_fault facts 8 ps gs (length work) ≡ None = ap (λ z. first_fault z 8 ps gs (length work)) (sym c.facts.ensures) ∙ sym c.first_fault.ensures ∙ c.in_default.is in
     let p = no_fault facts 8 ps gs (length work) none in
     let proper : Proper m (ask ps gs) = passed_proper m 8 ps gs (length work) (omega arith) p in
     let n : 2 * length ps - 0 ≡ 2 * length ps = omega arith in
-    let pairs : take (2 * length ps - 0) c.with-opposites-pairs.result ≡ with_opposites m ps = ap (λ z. take z c.with-opposites-pairs.result) n ∙ c.with-opposites-pairs.ensures in
+    let pairs : take (2 * length ps - 0) c.with_opposites-pairs.result ≡ with_opposites m ps = ap (λ z. take z c.with_opposites-pairs.result) n ∙ c.with_opposites-pairs.ensures in
     let asked : Asked m (ask (with_opposites m ps) gs) None b₀ b₁ c.answer.result = subst (λ xs. Asked m (ask xs gs) None b₀ b₁ c.answer.result) pairs c.answer.ensures.asked in
     let checked : Asked m (ask (with_opposites m ps) gs) (first_fault facts 8 ps gs (length work)) b₀ b₁ c.answer.result = subst (λ z. Asked m (ask (with_opposites m ps) gs) z b₀ b₁ c.answer.result) (sym none) asked in
     record {

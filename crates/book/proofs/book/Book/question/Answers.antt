@@ -15,7 +15,7 @@ answer-requires g c =
     let ps = c.args.predicates.now in
     let gs = c.args.goals.now in
     let long = length c.args.work.now in
-    let none : first_fault facts 16 ps gs long ≡ None = ap (λ z. first_fault z 16 ps gs long) (sym c.facts.ensures) ∙ sym c.first_fault.ensures ∙ c.in-default.is in
+    let none : first_fault facts 16 ps gs long ≡ None = ap (λ z. first_fault z 16 ps gs long) (sym c.facts.ensures) ∙ sym c.first_fault.ensures ∙ c.in_default.is in
     let p = no_fault facts 16 ps gs long none in
     record {
       kept = kept_out c.args.self.now.lent.rows.now c.args.self.now.lent.count c.args.self.now.kept;
@@ -35,7 +35,7 @@ returns g c =
     let work = c.args.work.now in
     let b = c.args.self.now.lent in
     let t = c.answer.new.register in
-    let none : first_fault facts 16 ps gs (length work) ≡ None = ap (λ z. first_fault z 16 ps gs (length work)) (sym c.facts.ensures) ∙ sym c.first_fault.ensures ∙ c.in-default.is in
+    let none : first_fault facts 16 ps gs (length work) ≡ None = ap (λ z. first_fault z 16 ps gs (length work)) (sym c.facts.ensures) ∙ sym c.first_fault.ensures ∙ c.in_default.is in
     let p = no_fault facts 16 ps gs (length work) none in
     let b₀ = book_of b.rows.now b.count in
     let b₁ = book_of t.rows.now t.count in

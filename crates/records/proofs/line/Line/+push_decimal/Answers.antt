@@ -22,7 +22,7 @@ returns t c = λ text e fits.
           let all = decimal_step n w.if-n-lt10.false small in
           let longer = ap length all ∙ length_push front (48 + n % 10) in
           let short : length (text ++ front) < 48 = simp length-append (omega arith) in
-          c.push.ensures (text ++ front) (w.front-is ∙ w.push-decimal-front.ensures text e (omega arith)) short
+          c.push.ensures (text ++ front) (w.front-is ∙ w.push_decimal-front.ensures text e (omega arith)) short
           ∙ ap (λ d. line_of ((text ++ front) ++ (d ∷ []))) c.digit.ensures
           ∙ ap line_of (append_assoc text front _ ∙ ap (λ ds. text ++ ds) (sym all))
     ]

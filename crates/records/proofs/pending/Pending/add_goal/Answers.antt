@@ -4,8 +4,8 @@ use Rattle.records.specs.declared.record.Statement.{Statement}
 use Rattle.records.proofs.Rows.{refused_full, kept_full, taken_room, added_room}
 use Rattle.records.proofs.pending.Pending.add_goal.Goals as goal
 
-pub returns-then-at-ge-MOST-GOALS : goal.returns-then-at-ge-MOST-GOALS
-returns-then-at-ge-MOST-GOALS c =
+pub returns-then-at-ge-MOST_GOALS : goal.returns-then-at-ge-MOST_GOALS
+returns-then-at-ge-MOST_GOALS c =
     let rows : List Statement = c.args.self.now.goals in
     let places : length rows ≡ 8 = c.args.self.now.goal_places in
     let all : c.args.self.now.goal_count ≡ length rows = omega arith in

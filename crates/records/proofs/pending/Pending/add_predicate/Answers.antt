@@ -4,8 +4,8 @@ use Rattle.records.specs.declared.record.Statement.{Statement}
 use Rattle.records.proofs.Rows.{refused_full, kept_full, taken_room, added_room}
 use Rattle.records.proofs.pending.Pending.add_predicate.Goals as goal
 
-pub returns-then-at-ge-MOST-PREDICATES : goal.returns-then-at-ge-MOST-PREDICATES
-returns-then-at-ge-MOST-PREDICATES c =
+pub returns-then-at-ge-MOST_PREDICATES : goal.returns-then-at-ge-MOST_PREDICATES
+returns-then-at-ge-MOST_PREDICATES c =
     let rows : List Statement = c.args.self.now.predicates in
     let places : length rows ≡ 16 = c.args.self.now.predicate_places in
     let all : c.args.self.now.predicate_count ≡ length rows = omega arith in
