@@ -1,4 +1,5 @@
 #![tactic(auto)]
+
 mod apply;
 mod book;
 mod calls;

@@ -1,4 +1,5 @@
 #![tactic(auto)]
+
 ghost use Rattle.diagrams.specs.Diagram.{row_hash};
 
 // A row of a decision diagram: at a position, the numbers of the set's halves without and with it.

@@ -1,4 +1,5 @@
 #![tactic(auto)]
+
 ghost use Rattle.std.specs.Prelude.{◌≡◌, ◌+◌, ◌-◌, ◌<◌, ◌≤◌, MatchOption, MatchResult};
 ghost use Rattle.theory.specs.declared.faults.TheoryFault.TheVariants.{TooManyVariables};
 ghost use Rattle.theory.specs.Theory.{Lawful};

@@ -1,4 +1,5 @@
 #![tactic(auto)]
+
 mod equal;
 mod faults;
 mod rules;

@@ -9,8 +9,8 @@ returns-then-fact-v c = sym (past_loops _ _ c.if-fact-v.true)
 pub returns-then-not-impossible : goal.returns-then-not-impossible
 returns-then-not-impossible c = sym (no_loop _ _ (cc))
 
-pub overflow-cast-result : goal.overflow-cast-result
-overflow-cast-result c = omega (arith, (few _ c.requires).0)
+pub overflow_cast-result : goal.overflow_cast-result
+overflow_cast-result c = omega (arith, (few _ c.requires).0)
 
 pub returns : goal.returns
 returns c = sym (loop_is _ _ c.if-fact-v.false (cc))

@@ -5,8 +5,8 @@ use Rattle.diagrams.proofs.MakingRows.{extends_same, made_same}
 use Rattle.book.proofs.PutRows.{put_extends, put_makes, put_makes_none, place_small}
 use Rattle.book.proofs.apply.make.Goals as goal
 
-pub overflow-add-result : goal.overflow-add-result
-overflow-add-result c =
+pub overflow_add-result : goal.overflow_add-result
+overflow_add-result c =
     let t = c.args.register.now in
     let u = c.put.new.self in
     let p = c.in-Some.ensures.put c.requires.indexed in

@@ -29,8 +29,8 @@ answer-requires g c =
       proper = subst (λ xs. Proper m (ask xs gs)) (sym pairs) (proper_pairs m (g.T.Theory.lawful c.args.theory.now).bounds ps gs p.few (passed_proper m 8 ps gs long (omega arith) p));
     }
 
-pub invariant-of-self : goal.invariant-of-self
-invariant-of-self g c = (∣ c.answer.ensures.kept ∣₁, tt)
+pub invariant_of-self : goal.invariant_of-self
+invariant_of-self g c = ∣ c.answer.ensures.kept ∣₁
 
 pub returns : goal.returns
 returns g c =

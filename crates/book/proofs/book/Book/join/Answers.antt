@@ -7,8 +7,8 @@ use Rattle.book.proofs.book.Book.join.Goals as goal
 pub together-requires : goal.together-requires
 together-requires c = kept_out c.args.self.now.lent.rows.now c.args.self.now.lent.count c.args.self.now.kept
 
-pub invariant-of-self : goal.invariant-of-self
-invariant-of-self c = (∣ c.together.ensures.kept ∣₁, tt)
+pub invariant_of-self : goal.invariant_of-self
+invariant_of-self c = ∣ c.together.ensures.kept ∣₁
 
 pub returns : goal.returns
 returns c =

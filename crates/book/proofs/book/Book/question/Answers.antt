@@ -23,8 +23,8 @@ answer-requires g c =
       proper = passed_proper (meaning g.T.Theory c.args.theory.now) 16 ps gs long (omega arith) p;
     }
 
-pub invariant-of-self : goal.invariant-of-self
-invariant-of-self g c = (∣ c.answer.ensures.kept ∣₁, tt)
+pub invariant_of-self : goal.invariant_of-self
+invariant_of-self g c = ∣ c.answer.ensures.kept ∣₁
 
 pub returns : goal.returns
 returns g c =
