@@ -1,4 +1,5 @@
 #![tactic(auto)]
+
 use book::Book;
 use diagrams::Row;
 use equality::Term;

@@ -1,4 +1,5 @@
 #![tactic(auto)]
+
 mod answers;
 mod faults;
 mod session;

@@ -1,4 +1,5 @@
 #![tactic(auto)]
+
 mod files;
 mod library;
 mod limits;

@@ -1,4 +1,5 @@
 #![tactic(auto)]
+
 mod asking;
 mod choices;
 mod deadlines;

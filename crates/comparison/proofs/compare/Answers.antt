@@ -8,8 +8,8 @@ use Rattle.book.proofs.Failing.{failed}
 use Rattle.comparison.proofs.Comparing.{leads_on, gives_leads, join_leads, compared}
 use Rattle.comparison.proofs.compare.Goals as goal
 
-pub returns-in-err-two : goal.returns-in-err-two
-returns-in-err-two g c =
+pub returns-in_err-two : goal.returns-in_err-two
+returns-in_err-two g c =
     let x = c.args.first.now in
     let y = c.args.second.now in
     let z = c.args.third.now in
@@ -20,11 +20,11 @@ returns-in-err-two g c =
     let l2 = leads_on b0 b1 b2 l1 (gives_leads b1 c.asked-2.result b2 (impossible (meaning g.B.Theory y.theory.now) (ask y.predicates.now y.goals.now)) c.asked-2.ensures.gives) in
     record {
       held = c.asked-2.ensures.held ∙ c.asked.ensures.held;
-      compared = failed c.from-residual-in-err-two.result c.from-residual-in-err-two.ensures.0 _ _ l2;
+      compared = failed c.from_residual-in_err-two.result c.from_residual-in_err-two.ensures.0 _ _ l2;
     }
 
-pub returns-in-err-three : goal.returns-in-err-three
-returns-in-err-three g c =
+pub returns-in_err-three : goal.returns-in_err-three
+returns-in_err-three g c =
     let x = c.args.first.now in
     let y = c.args.second.now in
     let z = c.args.third.now in
@@ -39,11 +39,11 @@ returns-in-err-three g c =
     let l4 = leads_on b0 b3 b4 l3 (gives_leads b3 c.asked-3.result b4 (impossible (meaning g.C.Theory z.theory.now) (ask z.predicates.now z.goals.now)) c.asked-3.ensures.gives) in
     record {
       held = c.asked-3.ensures.held ∙ c.refused.ensures.held ∙ c.asked-2.ensures.held ∙ c.asked.ensures.held;
-      compared = failed c.from-residual-in-err-three.result c.from-residual-in-err-three.ensures.0 _ _ l4;
+      compared = failed c.from_residual-in_err-three.result c.from_residual-in_err-three.ensures.0 _ _ l4;
     }
 
-pub returns-in-err-cases : goal.returns-in-err-cases
-returns-in-err-cases g c =
+pub returns-in_err-cases : goal.returns-in_err-cases
+returns-in_err-cases g c =
     let x = c.args.first.now in
     let y = c.args.second.now in
     let z = c.args.third.now in
@@ -60,11 +60,11 @@ returns-in-err-cases g c =
     let l5 = leads_on b0 b4 b5 l4 (gives_leads b4 c.abstracted.result b5 (impossible (meaning g.A.Theory x.theory.now) (ask (with_opposites (meaning g.A.Theory x.theory.now) x.predicates.now) x.goals.now)) c.abstracted.ensures.gives) in
     record {
       held = c.abstracted.ensures.held ∙ c.asked-3.ensures.held ∙ c.refused.ensures.held ∙ c.asked-2.ensures.held ∙ c.asked.ensures.held;
-      compared = failed c.from-residual-in-err-cases.result c.from-residual-in-err-cases.ensures.0 _ _ l5;
+      compared = failed c.from_residual-in_err-cases.result c.from_residual-in_err-cases.ensures.0 _ _ l5;
     }
 
-pub returns-in-err-union : goal.returns-in-err-union
-returns-in-err-union g c =
+pub returns-in_err-union : goal.returns-in_err-union
+returns-in_err-union g c =
     let x = c.args.first.now in
     let y = c.args.second.now in
     let z = c.args.third.now in
@@ -80,14 +80,14 @@ returns-in-err-union g c =
     let l3 = leads_on b0 b2 b3 l2 c.refused.ensures.leads in
     let l4 = leads_on b0 b3 b4 l3 (gives_leads b3 c.asked-3.result b4 (impossible (meaning g.C.Theory z.theory.now) (ask z.predicates.now z.goals.now)) c.asked-3.ensures.gives) in
     let l5 = leads_on b0 b4 b5 l4 (gives_leads b4 c.abstracted.result b5 (impossible (meaning g.A.Theory x.theory.now) (ask (with_opposites (meaning g.A.Theory x.theory.now) x.predicates.now) x.goals.now)) c.abstracted.ensures.gives) in
-    let l6 = leads_on b0 b5 b6 l5 (join_leads Union c.in-ok-one.one c.in-ok-two.two b5 c.joined.result b6 c.joined.ensures.gives) in
+    let l6 = leads_on b0 b5 b6 l5 (join_leads Union c.in_ok-one.one c.in_ok-two.two b5 c.joined.result b6 c.joined.ensures.gives) in
     record {
       held = c.joined.ensures.held ∙ c.abstracted.ensures.held ∙ c.asked-3.ensures.held ∙ c.refused.ensures.held ∙ c.asked-2.ensures.held ∙ c.asked.ensures.held;
-      compared = failed c.from-residual-in-err-union.result c.from-residual-in-err-union.ensures.0 _ _ l6;
+      compared = failed c.from_residual-in_err-union.result c.from_residual-in_err-union.ensures.0 _ _ l6;
     }
 
-pub returns-in-err-intersection : goal.returns-in-err-intersection
-returns-in-err-intersection g c =
+pub returns-in_err-intersection : goal.returns-in_err-intersection
+returns-in_err-intersection g c =
     let x = c.args.first.now in
     let y = c.args.second.now in
     let z = c.args.third.now in
@@ -104,11 +104,11 @@ returns-in-err-intersection g c =
     let l3 = leads_on b0 b2 b3 l2 c.refused.ensures.leads in
     let l4 = leads_on b0 b3 b4 l3 (gives_leads b3 c.asked-3.result b4 (impossible (meaning g.C.Theory z.theory.now) (ask z.predicates.now z.goals.now)) c.asked-3.ensures.gives) in
     let l5 = leads_on b0 b4 b5 l4 (gives_leads b4 c.abstracted.result b5 (impossible (meaning g.A.Theory x.theory.now) (ask (with_opposites (meaning g.A.Theory x.theory.now) x.predicates.now) x.goals.now)) c.abstracted.ensures.gives) in
-    let l6 = leads_on b0 b5 b6 l5 (join_leads Union c.in-ok-one.one c.in-ok-two.two b5 c.joined.result b6 c.joined.ensures.gives) in
-    let l7 = leads_on b0 b6 b7 l6 (join_leads Intersection c.in-ok-union.union c.in-ok-cases.cases b6 c.joined-2.result b7 c.joined-2.ensures.gives) in
+    let l6 = leads_on b0 b5 b6 l5 (join_leads Union c.in_ok-one.one c.in_ok-two.two b5 c.joined.result b6 c.joined.ensures.gives) in
+    let l7 = leads_on b0 b6 b7 l6 (join_leads Intersection c.in_ok-union.union c.in_ok-cases.cases b6 c.joined-2.result b7 c.joined-2.ensures.gives) in
     record {
       held = c.joined-2.ensures.held ∙ c.joined.ensures.held ∙ c.abstracted.ensures.held ∙ c.asked-3.ensures.held ∙ c.refused.ensures.held ∙ c.asked-2.ensures.held ∙ c.asked.ensures.held;
-      compared = failed c.from-residual-in-err-intersection.result c.from-residual-in-err-intersection.ensures.0 _ _ l7;
+      compared = failed c.from_residual-in_err-intersection.result c.from_residual-in_err-intersection.ensures.0 _ _ l7;
     }
 
 pub returns : goal.returns
@@ -126,10 +126,10 @@ returns g c =
     let b7 = book_of c.joined-2.new.book.lent.rows.now c.joined-2.new.book.lent.count in
     record {
       held = c.joined-2.ensures.held ∙ c.joined.ensures.held ∙ c.abstracted.ensures.held ∙ c.asked-3.ensures.held ∙ c.refused.ensures.held ∙ c.asked-2.ensures.held ∙ c.asked.ensures.held;
-      compared = compared b0 b1 b2 b3 b4 b5 b6 b7 c.in-ok-one.one c.in-ok-two.two c.in-ok-three.three c.in-ok-cases.cases c.in-ok-union.union c.in-ok-intersection.intersection
+      compared = compared b0 b1 b2 b3 b4 b5 b6 b7 c.in_ok-one.one c.in_ok-two.two c.in_ok-three.three c.in_ok-cases.cases c.in_ok-union.union c.in_ok-intersection.intersection
           (impossible (meaning g.A.Theory x.theory.now) (ask x.predicates.now x.goals.now))
           (impossible (meaning g.B.Theory y.theory.now) (ask y.predicates.now y.goals.now))
           (impossible (meaning g.C.Theory z.theory.now) (ask z.predicates.now z.goals.now))
           (impossible (meaning g.A.Theory x.theory.now) (ask (with_opposites (meaning g.A.Theory x.theory.now) x.predicates.now) x.goals.now))
-          c.in-ok-one.ensures.gives c.in-ok-two.ensures.gives c.refused.ensures.leads c.in-ok-three.ensures.gives c.in-ok-cases.ensures.gives c.in-ok-union.ensures.gives c.in-ok-intersection.ensures.gives;
+          c.in_ok-one.ensures.gives c.in_ok-two.ensures.gives c.refused.ensures.leads c.in_ok-three.ensures.gives c.in_ok-cases.ensures.gives c.in_ok-union.ensures.gives c.in_ok-intersection.ensures.gives;
     }

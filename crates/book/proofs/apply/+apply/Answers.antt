@@ -40,8 +40,8 @@ apply-requires t c =
     let st = c.split-position.ensures in
     (below (falls_without c.args.op st) c.decreases, (c.requires.ready, held_without c.args.op st))
 
-pub returns-in-err-without : goal.returns-in-err-without
-returns-in-err-without t c =
+pub returns-in_err-without : goal.returns-in_err-without
+returns-in_err-without t c =
     let b = c.args.register.now in
     let st = c.split-position.ensures in
     record {
@@ -50,8 +50,8 @@ returns-in-err-without t c =
       tables = c.apply.ensures.tables;
       extends = c.apply.ensures.extends;
       ready = c.apply.ensures.ready;
-      applied = broken b.rows.now b.count _ _ (union_or_intersection c.args.op b.rows.now c.args.a c.args.b) c.from-residual.result c.from-residual.ensures.0
-          (without_full c.args.op st c.in-err-without.ensures.applied);
+      applied = broken b.rows.now b.count _ _ (union_or_intersection c.args.op b.rows.now c.args.a c.args.b) c.from_residual.result c.from_residual.ensures.0
+          (without_full c.args.op st c.in_err-without.ensures.applied);
     }
 
 pub apply-requires-2 : goal.apply-requires-2
@@ -60,8 +60,8 @@ apply-requires-2 t c =
     let e = c.apply.ensures.extends in
     (below (falls_with c.args.op st e) c.decreases, (c.apply.ensures.ready, held_later c.args.op st e))
 
-pub returns-in-err-with : goal.returns-in-err-with
-returns-in-err-with t c =
+pub returns-in_err-with : goal.returns-in_err-with
+returns-in_err-with t c =
     let b = c.args.register.now in
     let st = c.split-position.ensures in
     let e = c.apply.ensures.extends in
@@ -72,8 +72,8 @@ returns-in-err-with t c =
       tables = (f.tables.0 ∙ c.apply.ensures.tables.0, f.tables.1 ∙ c.apply.ensures.tables.1);
       extends = extends_more e f.extends;
       ready = f.ready;
-      applied = broken b.rows.now b.count _ _ (union_or_intersection c.args.op b.rows.now c.args.a c.args.b) c.from-residual-in-err-with.result c.from-residual-in-err-with.ensures.0
-          (with_full c.args.op st e c.in-ok-without.ensures.applied c.in-err-with.ensures.applied);
+      applied = broken b.rows.now b.count _ _ (union_or_intersection c.args.op b.rows.now c.args.a c.args.b) c.from_residual-in_err-with.result c.from_residual-in_err-with.ensures.0
+          (with_full c.args.op st e c.in_ok-without.ensures.applied c.in_err-with.ensures.applied);
     }
 
 pub make-requires : goal.make-requires
@@ -84,11 +84,11 @@ make-requires t c =
       kept = r.kept;
       indexed = r.indexed;
       room = r.room;
-      fit = fit c.args.op st c.apply.ensures.extends c.in-ok-without.ensures.applied c.in-ok-with.ensures.applied;
+      fit = fit c.args.op st c.apply.ensures.extends c.in_ok-without.ensures.applied c.in_ok-with.ensures.applied;
     }
 
-pub returns-in-err-n : goal.returns-in-err-n
-returns-in-err-n t c =
+pub returns-in_err-n : goal.returns-in_err-n
+returns-in_err-n t c =
     let b = c.args.register.now in
     let st = c.split-position.ensures in
     let e = c.apply.ensures.extends in
@@ -101,8 +101,8 @@ returns-in-err-n t c =
       tables = (f.tables.0 ∙ c.apply.ensures.tables.0, f.tables.1 ∙ c.apply.ensures.tables.1);
       extends = extends_more (extends_more e f.extends) m.extends;
       ready = ready_made f.ready m.extends m.indexed m.room;
-      applied = broken b.rows.now b.count _ _ (union_or_intersection c.args.op b.rows.now c.args.a c.args.b) c.from-residual-in-err-n.result c.from-residual-in-err-n.ensures.0
-          (done c.args.op st e c.in-ok-without.ensures.applied c.in-ok-with.ensures.applied u.rows.now u.count (Err c.in-err-n.field-0.0) c.in-err-n.ensures.made);
+      applied = broken b.rows.now b.count _ _ (union_or_intersection c.args.op b.rows.now c.args.a c.args.b) c.from_residual-in_err-n.result c.from_residual-in_err-n.ensures.0
+          (done c.args.op st e c.in_ok-without.ensures.applied c.in_ok-with.ensures.applied u.rows.now u.count (Err c.in_err-n.field-0.0) c.in_err-n.ensures.made);
     }
 
 pub returns : goal.returns
@@ -113,9 +113,9 @@ returns t c =
     let f = c.apply-2.ensures in
     let m = c.make.ensures in
     let u = c.make.new.register in
-    let n = c.in-ok-n.n in
+    let n = c.in_ok-n.n in
     let made : Adds b.rows.now b.count u.rows.now u.count (union_or_intersection c.args.op b.rows.now c.args.a c.args.b) n =
-    done c.args.op st e c.in-ok-without.ensures.applied c.in-ok-with.ensures.applied u.rows.now u.count (Ok n) c.in-ok-n.ensures.made in
+    done c.args.op st e c.in_ok-without.ensures.applied c.in_ok-with.ensures.applied u.rows.now u.count (Ok n) c.in_ok-n.ensures.made in
     record {
       held = m.held ∙ f.held ∙ c.apply.ensures.held;
       index = (m.names.0 ∙ f.index.0 ∙ c.apply.ensures.index.0, m.names.1 ∙ f.index.1 ∙ c.apply.ensures.index.1);

@@ -8,8 +8,8 @@ use Rattle.book.proofs.Meeting.{place_gathered}
 use Rattle.diagrams.proofs.Applied.{extends_more}
 use Rattle.book.proofs.gather.derive.Goals as goal
 
-pub returns-in-err-together : goal.returns-in-err-together
-returns-in-err-together c =
+pub returns-in_err-together : goal.returns-in_err-together
+returns-in_err-together c =
     let w = c.args.work.now in
     let p = c.premises.ensures in
     record {
@@ -23,7 +23,7 @@ returns-in-err-together c =
       rest = λ k le. refl;
       derived = λ m S i rows₀ count₀ e at h.
           let names : Names m.facts c.args.rule = subst (λ z. Names z c.args.rule) (sym e) c.requires.names in
-          failed c.from-residual.result c.from-residual.ensures.0 _ _ (premises_full m S i h c.args.rule at (c.in-err-together.ensures.meets m.facts S names h.olds));
+          failed c.from_residual.result c.from_residual.ensures.0 _ _ (premises_full m S i h c.args.rule at (c.in_err-together.ensures.meets m.facts S names h.olds));
     }
 
 pub returns : goal.returns
@@ -46,7 +46,7 @@ returns c =
           let names : Names m.facts c.args.rule = subst (λ z. Names z c.args.rule) (sym e) c.requires.names in
           let same : slot m.facts x ≡ slot c.args.facts x = ap (λ z. slot z x) e in
           let low = slot_below m.facts x (concluded_known m.facts c.args.rule names) in
-          place_gathered m S i h c.args.rule at names (c.in-ok-together.ensures.meets m.facts S names h.olds)
+          place_gathered m S i h c.args.rule at names (c.in_ok-together.ensures.meets m.facts S names h.olds)
           (c.args.facts + 1 + c.slot_of.result) (omega (arith, e, same, c.slot_of.ensures)) (omega (arith, e, same, c.slot_of.ensures, low, c.requires.used, w.within))
           u.rows.now u.count c.gather.new.work.numbers.now c.gather.result g.gathers;
     }

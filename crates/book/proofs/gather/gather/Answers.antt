@@ -3,8 +3,8 @@ use Rattle.book.proofs.Failing.{failed}
 use Rattle.book.proofs.Holds.{holding_later, holding_set, rest_set}
 use Rattle.book.proofs.gather.gather.Goals as goal
 
-pub returns-in-err-together : goal.returns-in-err-together
-returns-in-err-together c =
+pub returns-in_err-together : goal.returns-in_err-together
+returns-in_err-together c =
     let w = c.args.work.now in
     let e = c.apply.ensures.extends in
     record {
@@ -16,7 +16,7 @@ returns-in-err-together c =
       ready = c.apply.ensures.ready;
       holding = holding_later w.numbers.now w.used c.args.register.now.count c.apply.new.register.count e.more c.requires.holding;
       rest = λ k le. refl;
-      gathers = failed c.from-residual.result c.from-residual.ensures.0 _ _ c.in-err-together.ensures.applied;
+      gathers = failed c.from_residual.result c.from_residual.ensures.0 _ _ c.in_err-together.ensures.applied;
     }
 
 pub returns : goal.returns
@@ -30,8 +30,8 @@ returns c =
       work = (refl, refl);
       extends = e;
       ready = c.apply.ensures.ready;
-      holding = holding_set w.numbers.now w.used c.apply.new.register.count c.args.slot c.in-ok-together.together (omega arith) c.in-ok-together.ensures.applied.held
+      holding = holding_set w.numbers.now w.used c.apply.new.register.count c.args.slot c.in_ok-together.together (omega arith) c.in_ok-together.ensures.applied.held
           (holding_later w.numbers.now w.used c.args.register.now.count c.apply.new.register.count e.more c.requires.holding);
-      rest = rest_set w.numbers.now w.used c.args.slot c.in-ok-together.together c.requires.slot;
-      gathers = (c.in-ok-together.together, c.in-ok-together.ensures.applied, refl);
+      rest = rest_set w.numbers.now w.used c.args.slot c.in_ok-together.together c.requires.slot;
+      gathers = (c.in_ok-together.together, c.in_ok-together.ensures.applied, refl);
     }

@@ -15,8 +15,8 @@ make-requires c =
     let r = c.requires.ready in
     record { kept = r.kept; indexed = r.indexed; room = r.room; fit = position_fit t.rows.now t.count r.kept.sound c.args.position c.requires.position }
 
-pub returns-in-err-chosen : goal.returns-in-err-chosen
-returns-in-err-chosen c =
+pub returns-in_err-chosen : goal.returns-in_err-chosen
+returns-in_err-chosen c =
     let t = c.args.register.now in
     let m = c.make.ensures in
     let w = c.args.work.now in
@@ -30,8 +30,8 @@ returns-in-err-chosen c =
       ready = ready_made c.requires.ready m.extends m.indexed m.room;
       holding = holding_later w.numbers.now w.used c.args.register.now.count c.make.new.register.count m.extends.more c.requires.holding;
       rest = λ k le. refl;
-      positioned = λ facts ps rows₀ count₀ here lt h. failed c.from-residual.result c.from-residual.ensures.0 _ _
-          (position_full facts ps k h (c.in-err-chosen.ensures.made t.rows.now t.count (λ z. bit z k) (position_halves t.rows.now t.count c.requires.ready.kept.sound k c.requires.position)));
+      positioned = λ facts ps rows₀ count₀ here lt h. failed c.from_residual.result c.from_residual.ensures.0 _ _
+          (position_full facts ps k h (c.in_err-chosen.ensures.made t.rows.now t.count (λ z. bit z k) (position_halves t.rows.now t.count c.requires.ready.kept.sound k c.requires.position)));
     }
 
 pub gather-requires : goal.gather-requires
@@ -44,7 +44,7 @@ gather-requires c =
       ready = ready_made r m.extends m.indexed m.room;
       holding = holding_later w.numbers.now w.used t.count c.make.new.register.count m.extends.more c.requires.holding;
       slot = c.requires.fact;
-      number = (position_made t.rows.now t.count r.kept.sound c.args.position c.requires.position c.in-ok-chosen.ensures.made).held;
+      number = (position_made t.rows.now t.count r.kept.sound c.args.position c.requires.position c.in_ok-chosen.ensures.made).held;
     }
 
 pub returns : goal.returns
@@ -64,6 +64,6 @@ returns c =
       holding = g.holding;
       rest = g.rest;
       positioned = λ facts ps rows₀ count₀ here lt h. position_gathered facts ps c.args.position h
-          (position_made t.rows.now t.count c.requires.ready.kept.sound c.args.position c.requires.position c.in-ok-chosen.ensures.made)
+          (position_made t.rows.now t.count c.requires.ready.kept.sound c.args.position c.requires.position c.in_ok-chosen.ensures.made)
           c.args.fact here lt (omega (arith, c.requires.fact, w.within)) u.rows.now u.count c.gather.new.work.numbers.now c.gather.result g.gathers;
     }

@@ -5,8 +5,8 @@ use Rattle.saturation.proofs.Turning.{round_settled}
 use Rattle.book.proofs.Failing.{failed}
 use Rattle.book.proofs.saturation.next_round.Goals as goal
 
-pub returns-in-err-round : goal.returns-in-err-round
-returns-in-err-round g c =
+pub returns-in_err-round : goal.returns-in_err-round
+returns-in_err-round g c =
     let r = c.round.ensures in
     record {
       register = r.register;
@@ -17,7 +17,7 @@ returns-in-err-round g c =
       ready = r.ready;
       holding = r.holding;
       rest = r.rest;
-      turns = λ S h. failed c.from-residual.result c.from-residual.ensures.0 _ _ (c.in-err-round.ensures.rounded S h);
+      turns = λ S h. failed c.from_residual.result c.from_residual.ensures.0 _ _ (c.in_err-round.ensures.rounded S h);
     }
 
 pub returns : goal.returns
@@ -34,6 +34,6 @@ returns g c =
       ready = r.ready;
       holding = s.holding c.round.new.register.count r.holding;
       rest = λ k le. s.rest k (omega (arith, le, r.work.1)) ∙ r.rest k le;
-      turns = λ S h. round_settled m (g.T.Theory.lawful c.args.theory.now) S (c.in-ok-round.ensures.rounded S h)
+      turns = λ S h. round_settled m (g.T.Theory.lawful c.args.theory.now) S (c.in_ok-round.ensures.rounded S h)
           (subst (λ z. Settled z c.round.new.work.numbers.now c.settle.new.work.numbers.now c.settle.result) c.requires.facts s.settled);
     }

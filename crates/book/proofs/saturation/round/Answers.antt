@@ -27,8 +27,8 @@ loop-place-preserved-in_default g c =
       λ S h. subst (λ z. InRound m S z t.rows.now t.count u.rows.now u.count c.loop-place.work.numbers.now) one (place_empty m S k (s.1 S h) (sym c.rule.ensures ∙ c.in_default.is)),
     )
 
-pub returns-in-err-derive : goal.returns-in-err-derive
-returns-in-err-derive g c =
+pub returns-in_err-derive : goal.returns-in_err-derive
+returns-in_err-derive g c =
     let m = meaning g.T.Theory c.args.theory.now in
     let d = c.derive.ensures in
     let t = c.args.register.now in
@@ -46,9 +46,9 @@ returns-in-err-derive g c =
       ready = step.ready;
       holding = step.holding;
       rest = step.work.rest;
-      rounded = λ S h. failed c.from-residual.result c.from-residual.ensures.0 _ _
+      rounded = λ S h. failed c.from_residual.result c.from_residual.ensures.0 _ _
           (too_many_more t.rows.now t.count (RoundSet m S (suc k)) (RoundSet m S m.places) (round_set_more m S (suc k) m.places (omega (arith, below)))
-          (c.in-err-derive.ensures.derived m S k t.rows.now t.count (sym c.requires.facts) (sym c.rule.ensures ∙ c.in-Some.is) (s.1 S h)));
+          (c.in_err-derive.ensures.derived m S k t.rows.now t.count (sym c.requires.facts) (sym c.rule.ensures ∙ c.in-Some.is) (s.1 S h)));
     }
 
 pub loop-place-preserved : goal.loop-place-preserved
@@ -62,7 +62,7 @@ loop-place-preserved g c =
     let one : suc k ≡ k + 1 = omega arith in (
       carried_on s.0 (record { register = d.register; heads = d.index.0; next = d.index.1; unions = d.tables.0; intersections = d.tables.1; work = record { numbers = d.work.0; used = d.work.1; rest = d.rest }; extends = d.extends; ready = d.ready; holding = d.holding }),
       λ S h. subst (λ z. InRound m S z t.rows.now t.count u.rows.now u.count c.derive.new.work.numbers.now) one
-          (c.in-ok-derive.ensures.derived m S k t.rows.now t.count (sym c.requires.facts) (sym c.rule.ensures ∙ c.in-Some.is) (s.1 S h)),
+          (c.in_ok-derive.ensures.derived m S k t.rows.now t.count (sym c.requires.facts) (sym c.rule.ensures ∙ c.in-Some.is) (s.1 S h)),
     )
 
 pub returns : goal.returns

@@ -14,8 +14,8 @@ loop-gaining-init g c = (
   λ q h. rounds_begin (meaning g.T.Theory c.args.theory.now) q c.requires.ready.kept.sound h,
 )
 
-pub returns-in-err-changed : goal.returns-in-err-changed
-returns-in-err-changed g c =
+pub returns-in_err-changed : goal.returns-in_err-changed
+returns-in_err-changed g c =
     let m = meaning g.T.Theory c.args.theory.now in
     let d = c.next_round.ensures in
     let s = c.loop-gaining.invariant in
@@ -31,7 +31,7 @@ returns-in-err-changed g c =
       ready = step.ready;
       holding = step.holding;
       rest = step.work.rest;
-      ends = λ q h. let a = s.1 q h in failed c.from-residual.result c.from-residual.ensures.0 _ _ (round_full m q a (c.in-err-changed.ensures.turns (λ z. after m q z k) a.halves));
+      ends = λ q h. let a = s.1 q h in failed c.from_residual.result c.from_residual.ensures.0 _ _ (round_full m q a (c.in_err-changed.ensures.turns (λ z. after m q z k) a.halves));
     }
 
 pub returns-then-not-changed : goal.returns-then-not-changed
@@ -57,7 +57,7 @@ returns-then-not-changed g c =
       rest = step.work.rest;
       ends = λ q h.
           let a = s.1 q h in
-          let quiet = rounds_quiet m q a (subst (λ z. Turned m (λ x. after m q x k) t.rows.now t.count u.rows.now u.count w z) c.if-not-changed.true (c.in-ok-changed.ensures.turns (λ x. after m q x k) a.halves)) in
+          let quiet = rounds_quiet m q a (subst (λ z. Turned m (λ x. after m q x k) t.rows.now t.count u.rows.now u.count w z) c.if-not-changed.true (c.in_ok-changed.ensures.turns (λ x. after m q x k) a.halves)) in
           let at = subst (λ z. QuietAt m q r.rows.now r.count u.rows.now u.count (get_or w z 0) k) (sym c.requires.facts) quiet in
           let o = c.outcome.ensures in
           subst (λ z. QuietAt m q r.rows.now r.count u.rows.now u.count c.outcome.result.0 z) (sym o.rounds) (subst (λ z. QuietAt m q r.rows.now r.count u.rows.now u.count z k) (sym o.number) at);
@@ -77,7 +77,7 @@ loop-gaining-preserved g c =
       carried_on s.0 (record { register = d.register; heads = d.index.0; next = d.index.1; unions = d.tables.0; intersections = d.tables.1; work = record { numbers = d.work.0; used = d.work.1; rest = d.rest }; extends = d.extends; ready = d.ready; holding = d.holding }),
       λ q h. let a = s.1 q h in
           subst (λ z. AfterRounds m q z r.rows.now r.count u.rows.now u.count w) one
-          (one_round_more m q a (subst (λ z. Turned m (λ x. after m q x k) t.rows.now t.count u.rows.now u.count w z) c.if-not-changed.false (c.in-ok-changed.ensures.turns (λ x. after m q x k) a.halves))),
+          (one_round_more m q a (subst (λ z. Turned m (λ x. after m q x k) t.rows.now t.count u.rows.now u.count w z) c.if-not-changed.false (c.in_ok-changed.ensures.turns (λ x. after m q x k) a.halves))),
     )
 
 pub returns : goal.returns

@@ -21,8 +21,8 @@ rounds-requires g c =
       used = omega (arith, c.begin.ensures.work.1, c.start_goals.ensures.work.1, s.work.1, c.requires.used, c.facts-facts.ensures);
     }
 
-pub returns-in-err-start_predicates : goal.returns-in-err-start_predicates
-returns-in-err-start_predicates g c =
+pub returns-in_err-start_predicates : goal.returns-in_err-start_predicates
+returns-in_err-start_predicates g c =
     let m = meaning g.T.Theory c.args.theory.now in
     let q = ask c.args.predicates.now c.args.goals.now in
     let t = c.args.register.now in
@@ -34,8 +34,8 @@ returns-in-err-start_predicates g c =
       work = s.work;
       extends = s.extends;
       rest = s.rest;
-      saturates = failed c.from-residual.result c.from-residual.ensures.0 _ _
-          (start_full m q (g.T.Theory.lawful c.args.theory.now) t.rows.now t.count (c.in-err-start_predicates.ensures.starts m.facts c.requires.facts (λ k lt. c.requires.zero k (omega (arith, lt, c.requires.used)))));
+      saturates = failed c.from_residual.result c.from_residual.ensures.0 _ _
+          (start_full m q (g.T.Theory.lawful c.args.theory.now) t.rows.now t.count (c.in_err-start_predicates.ensures.starts m.facts c.requires.facts (λ k lt. c.requires.zero k (omega (arith, lt, c.requires.used)))));
     }
 
 pub returns : goal.returns
@@ -52,7 +52,7 @@ returns g c =
     let t = c.start_predicates.new.register in
     let u = c.rounds.new.register in
     let w = c.start_goals.new.work.numbers.now in
-    let at = c.in-ok-start_predicates.ensures.starts m.facts c.requires.facts (λ k lt. c.requires.zero k (omega (arith, lt, c.requires.used))) in
+    let at = c.in_ok-start_predicates.ensures.starts m.facts c.requires.facts (λ k lt. c.requires.zero k (omega (arith, lt, c.requires.used))) in
     let olds : Half m.facts t.rows.now t.count (first_half w) (λ z. start m q z) = starts m ps gs t.rows.now t.count (first_half w) (o.opposes (started ps (lib.ListN.length ps)) t.rows.now t.count at.olds) in
     let halves : BothHalves m.facts t.rows.now t.count c.begin.new.work.numbers.now (λ z. start m q z) =
     halves_begin m.facts (λ z. start m q z) olds (subst (λ z. Begun z w c.begin.new.work.numbers.now) c.facts-facts.ensures b.begun) in

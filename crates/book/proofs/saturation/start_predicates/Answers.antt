@@ -14,8 +14,8 @@ loop-position-init c =
       λ facts below zeros. start_begins facts c.args.predicates.now t.rows.now t.count w.numbers.now c.requires.ready.kept.sound zeros,
     )
 
-pub returns-in-err-gather_position : goal.returns-in-err-gather_position
-returns-in-err-gather_position c =
+pub returns-in_err-gather_position : goal.returns-in_err-gather_position
+returns-in_err-gather_position c =
     let d = c.gather_position.ensures in
     let s = c.loop-position.invariant in
     let t = c.args.register.now in
@@ -32,9 +32,9 @@ returns-in-err-gather_position c =
       ready = step.ready;
       holding = step.holding;
       rest = step.work.rest;
-      starts = λ facts below zeros. failed c.from-residual.result c.from-residual.ensures.0 _ _
+      starts = λ facts below zeros. failed c.from_residual.result c.from_residual.ensures.0 _ _
           (too_many_more t.rows.now t.count (StartSet ps (suc k)) (StartSet ps (length ps)) (start_set_more ps (suc k) (length ps) (omega (arith, c.loop-position-test.true)))
-          (c.in-err-gather_position.ensures.positioned facts ps t.rows.now t.count refl (below k c.loop-position-test.true) (s.1 facts below zeros)));
+          (c.in_err-gather_position.ensures.positioned facts ps t.rows.now t.count refl (below k c.loop-position-test.true) (s.1 facts below zeros)));
     }
 
 pub loop-position-preserved : goal.loop-position-preserved
@@ -48,7 +48,7 @@ loop-position-preserved c =
     let one : suc k ≡ k + 1 = omega arith in (
       carried_on s.0 (record { register = d.register; heads = d.index.0; next = d.index.1; unions = d.tables.0; intersections = d.tables.1; work = record { numbers = d.work.0; used = d.work.1; rest = d.rest }; extends = d.extends; ready = d.ready; holding = d.holding }),
       λ facts below zeros. subst (λ z. Started facts ps z t.rows.now t.count u.rows.now u.count c.gather_position.new.work.numbers.now) one
-          (c.in-ok-gather_position.ensures.positioned facts ps t.rows.now t.count refl (below k c.loop-position-test.true) (s.1 facts below zeros)),
+          (c.in_ok-gather_position.ensures.positioned facts ps t.rows.now t.count refl (below k c.loop-position-test.true) (s.1 facts below zeros)),
     )
 
 pub returns : goal.returns

@@ -8,7 +8,7 @@ pub together-requires : goal.together-requires
 together-requires c = kept_out c.args.self.now.lent.rows.now c.args.self.now.lent.count c.args.self.now.kept
 
 pub invariant_of-self : goal.invariant_of-self
-invariant_of-self c = ∣ c.together.ensures.kept ∣₁
+invariant_of-self c = record { kept = ∣ c.together.ensures.kept ∣₁ }
 
 pub returns : goal.returns
 returns c =

@@ -24,7 +24,7 @@ answer-requires g c =
     }
 
 pub invariant_of-self : goal.invariant_of-self
-invariant_of-self g c = ∣ c.answer.ensures.kept ∣₁
+invariant_of-self g c = record { kept = ∣ c.answer.ensures.kept ∣₁ }
 
 pub returns : goal.returns
 returns g c =
