@@ -1,5 +1,5 @@
 -- The end of a saturation, and what it says of a question's answer.
-use Rattle.std.proofs.Common.{◌≡◌, ℕ, List, length, None, Ok, Err, Result, sym, ap, ◌∙◌, subst, MatchResult}
+use Rattle.std.proofs.Common.{ℕ, List, length, None, Ok, Err, Result, MatchResult}
 use mathlib.Core.Logic.Iff
 use Rattle.theory.specs.Theory.{Meaning, Lawful}
 use Rattle.theory.specs.Rounds.{Question, Proper}

@@ -1,5 +1,5 @@
 -- What every step of a saturation keeps, from the state where a loop began to the state where it is.
-use Rattle.std.proofs.Common.{◌≡◌, ℕ, ◌≤◌, List, refl, ◌∙◌, arith}
+use Rattle.std.proofs.Common.{◌≡◌, refl, ◌∙◌, arith}
 use Rattle.register.specs.declared.Register.{Register}
 use Rattle.register.specs.declared.Index.{Index}
 use Rattle.diagrams.specs.declared.Row.{Row}

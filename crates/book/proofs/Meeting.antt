@@ -1,7 +1,6 @@
 -- What a rule's premises have together, and what a slot has after it has gathered.
-use Rattle.std.proofs.Common.{◌≡◌, ℕ, suc, ◌+◌, ◌<◌, Bool, true, false, ◌&&◌, List, length, get_or, set, IfOk, Some, None, Ok, Err, Option, Result, sym, refl, ap, ◌∙◌, subst, ap₂, arith, MatchResult}
+use Rattle.std.proofs.Common.{◌≡◌, ℕ, suc, ◌+◌, ◌<◌, Bool, true, false, ◌&&◌, List, length, get_or, IfOk, Some, None, Ok, Err, Option, Result, sym, refl, ap, ◌∙◌, subst, ap₂, arith, MatchResult}
 use mathlib.Core.Path.{fun_ext}
-use Rattle.theory.specs.declared.Conclusion.{Conclusion}
 use Rattle.theory.specs.declared.Conclusion.TheVariants.{Fact}
 use Rattle.theory.specs.declared.Rule.{Rule}
 use Rattle.theory.specs.declared.Rule.TheVariants.{Always, From, Both}
@@ -17,7 +16,7 @@ use Rattle.diagrams.specs.Applying.{Applies}
 use Rattle.diagrams.proofs.Applied.{plain}
 use Rattle.diagrams.proofs.Shortening.{member_1}
 use Rattle.saturation.specs.Stages.{Family, slot, StartSet, RoundSet, TooMany, InRound, Started}
-use Rattle.saturation.proofs.Placing.{slot_below, concluded_known, union_full, place_done}
+use Rattle.saturation.proofs.Placing.{union_full, place_done}
 use Rattle.saturation.proofs.Starting.{position_done, union_full as position-union-full}
 use Rattle.book.specs.Steps.{asked_for, Gathers, Meets}
 

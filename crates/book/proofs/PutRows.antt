@@ -1,5 +1,5 @@
 -- What putting a row into a book's register makes of the set whose halves the row holds.
-use Rattle.std.proofs.Common.{◌≡◌, ℕ, ◌+◌, ◌<◌, ◌≤◌, min, ◌≢◌, List, length, get_or, set, Some, None, Ok, Err, Option, sym, refl, ap, ◌∙◌, subst, inl, inr, arith}
+use Rattle.std.proofs.Common.{◌≡◌, ℕ, ◌+◌, ◌<◌, ◌≤◌, min, ◌≢◌, List, length, get_or, Some, None, Ok, Err, Option, sym, ◌∙◌, inl, inr, arith}
 use Rattle.std.proofs.lemmas.List.{get_or_default}
 use Rattle.register.specs.Rows.{Puts, Absent as AbsentRow}
 use Rattle.diagrams.specs.declared.Row.{Row}

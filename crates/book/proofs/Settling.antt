@@ -1,7 +1,7 @@
 -- The loops over the slots of a work slice: taking over what was gathered, and filling the second half.
 use Rattle.std.proofs.Common.{◌≡◌, ℕ, ◌+◌, ◌<◌, ◌≤◌, Bool, true, false, not, eqb, ◌≢◌, List, length, get_or, set, sym, refl, ap, ◌∙◌, subst, ⊎_elim, arith, get_or-set_other, get_or-set_same}
 use Rattle.std.proofs.lemmas.Bool.{false≢true, cases_eq, eq-eqb, ne_eqb}
-use Rattle.saturation.specs.Stages.{first_half, second_half, Settled, Begun}
+use Rattle.saturation.specs.Stages.{Settled, Begun}
 
 -- the slots below k are taken over
 pub record Settling (facts : ℕ) (numbers₀ numbers : List ℕ) (k : ℕ) (changed : Bool) : Type 0 where

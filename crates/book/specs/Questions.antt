@@ -8,7 +8,7 @@
 --   Asked                  what a question leaves: refused by a check, answered, or refused for want of rows
 --   Implied                what the full cases of an abstraction's answer say
 --   Holding                the numbers in the front part of a work slice are held by a book
-use Rattle.std.specs.Prelude.{◌≡◌, ℕ, ◌+◌, ◌*◌, ◌^◌, ◌<◌, ◌≤◌, Bool, true, false, cond, not, ◌&&◌, ◌↔◌, List, [], ◌∷◌, ◌++◌, length, drop, replicate, Some, None, Ok, Err, Option, Result, nat_lt, slice_index}
+use Rattle.std.specs.Prelude.{◌≡◌, ℕ, ◌+◌, ◌*◌, ◌^◌, ◌<◌, Bool, true, cond, not, ◌&&◌, ◌↔◌, List, [], ◌∷◌, ◌++◌, length, drop, replicate, Some, None, Ok, Err, Option, Result, nat_lt, slice_index}
 use Rattle.theory.specs.Theory.{Meaning}
 use Rattle.theory.specs.Rounds.{Question, Derives, Impossible, RoundCount}
 use Rattle.theory.specs.Abstraction.{FullCase, Implies}

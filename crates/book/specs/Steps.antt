@@ -11,13 +11,12 @@
 --   Turns       a round is made and taken over, or its rows do not fit
 --   RoundsEnd   the rounds are made up to the first that changes no set, or the working sets' rows do not fit
 --   Saturates   a question's answer stands, or the working sets' rows do not fit
-use Rattle.std.specs.Prelude.{◌≡◌, ℕ, suc, ◌+◌, ◌*◌, ◌<◌, Bool, ◌⊎◌, List, length, set, Some, None, Ok, Err, Option, Result, MatchResult, slice_index, slice_set}
+use Rattle.std.specs.Prelude.{◌≡◌, ℕ, suc, ◌+◌, ◌<◌, Bool, ◌⊎◌, List, length, Some, None, Option, Result, MatchResult, slice_index, slice_set}
 use Rattle.theory.specs.declared.Rule.{Rule}
 use Rattle.theory.specs.declared.Rule.TheVariants.{Always, From, Both}
 use Rattle.theory.specs.Theory.{Meaning, Names, premised}
 use Rattle.theory.specs.Counting.{MoreThan}
 use Rattle.theory.specs.Rounds.{Question, facts_of, start}
-use Rattle.theory.specs.Abstraction.{ask}
 use Rattle.diagrams.specs.declared.Row.{Row}
 use Rattle.diagrams.specs.declared.NoRoom.{NoRoom}
 use Rattle.diagrams.specs.declared.Operation.TheVariants.{Union}
@@ -26,7 +25,7 @@ use Rattle.diagrams.specs.Making.{Adds}
 use Rattle.diagrams.specs.Books.{capacity, union_or_intersection}
 use Rattle.diagrams.specs.Applying.{Applies}
 use Rattle.saturation.specs.Working.{Working}
-use Rattle.saturation.specs.Stages.{Family, Half, first_half, started, opposed, StartSet, RoundSet, TooMany, InRound, BothHalves, Started, Turned, QuietAt, Saturated}
+use Rattle.saturation.specs.Stages.{Family, Half, first_half, opposed, StartSet, RoundSet, TooMany, InRound, BothHalves, Started, Turned, QuietAt, Saturated}
 
 abbrev pub asked_for : Rule → Option (record { 0 : ℕ; 1 : ℕ })
 asked_for (Always x) = None

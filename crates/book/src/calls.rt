@@ -11,7 +11,7 @@ use crate::faults::BookFault;
 use diagrams::Row;
 use register::Register;
 
-const BLANK: Row = Row {
+pub const BLANK: Row = Row {
     position: 0,
     without: 0,
     with: 0,

@@ -67,7 +67,7 @@ fn sized(
 }
 
 // The number of the union or the intersection of two numbers. Where its rows do not fit they are all given back.
-fn together(
+pub(crate) fn together(
     register: &mut Register<'_, Row>,
     op: Operation,
     left: u16,

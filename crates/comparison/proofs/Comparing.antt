@@ -1,14 +1,13 @@
 -- Steps of a run one after the other, what a part of a join counts with, and what equal numbers tell.
-use Rattle.std.proofs.Common.{◌≡◌, ℕ, ◌^◌, ◌<◌, Bool, true, false, cond, eqb, ◌⊎◌, ◌↔◌, List, [], ◌∷◌, ◌++◌, Some, None, Ok, Err, Option, Result, sym, refl, ap, ◌∙◌, subst, inl, inr, ⊎_elim}
+use Rattle.std.proofs.Common.{◌≡◌, ℕ, Bool, true, false, cond, eqb, ◌⊎◌, List, [], ◌∷◌, ◌++◌, Some, Ok, Err, Result, sym, refl, ap, ◌∙◌, subst, inl, inr, ⊎_elim}
 use mathlib.Core.Logic.Iff
 use mathlib.Core.List.{Memᴰ}
 use Rattle.std.proofs.lemmas.Bool.{true≢false, eqb-true, eq-eqb}
 use Rattle.diagrams.specs.declared.Operation.{Operation}
 use Rattle.diagrams.specs.declared.Operation.TheVariants.{Union, Intersection}
 use Rattle.diagrams.specs.Books.{Book}
-use Rattle.book.specs.Runs.{GivenFor, together_of, Has, Same, Given, given, first_given, else_read, part, Run}
+use Rattle.book.specs.Runs.{GivenFor, together_of, Same, Given, given, first_given, else_read, part, Run}
 use Rattle.runs.proofs.Telling.{equal_numbers_equal_choices}
-use Rattle.comparison.specs.declared.Comparison.{Comparison}
 use Rattle.comparison.specs.Comparing.{Gives, GivesJoin, Later, Leads, Tells, Compared}
 
 -- one call after another

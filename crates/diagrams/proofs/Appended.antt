@@ -1,9 +1,9 @@
 -- A new row behind the last in use keeps a book sound.
-use Rattle.std.proofs.Common.{◌≡◌, ℕ, zero, suc, ◌+◌, ◌<◌, ◌≤◌, min, Bool, true, false, cond, ◌≢◌, ◌⊎◌, ◌↔◌, List, length, set, sym, refl, ap, ◌∙◌, subst, ap₂, inl, inr, ⊎_elim, arith, length-set, get_or-set_other, get_or-set_same}
+use Rattle.std.proofs.Common.{◌≡◌, ℕ, suc, ◌+◌, ◌<◌, min, Bool, true, false, cond, ◌⊎◌, ◌↔◌, List, length, set, sym, refl, ap, ◌∙◌, subst, ap₂, inl, inr, ⊎_elim, arith, length-set, get_or-set_other, get_or-set_same}
 use Rattle.std.proofs.lemmas.Bool.{cases_eq, false≢true}
 use Rattle.diagrams.specs.declared.Row.{Row}
 use Rattle.theory.specs.Rounds.{bit}
-use Rattle.diagrams.specs.Diagram.{Sound, Ordered, blank, position_of, row_at, walk, member, put_position, Part, part_at, InUse}
+use Rattle.diagrams.specs.Diagram.{Sound, Ordered, blank, row_at, walk, member, put_position, Part, part_at, InUse}
 use Rattle.diagrams.proofs.Canonical.{steady}
 use Rattle.diagrams.proofs.Mixing.{put_more}
 use Rattle.diagrams.proofs.Kept.{walk_kept, member_kept, position_kept}

@@ -1,7 +1,6 @@
 -- One step of a join: the numbers of the two halves, made one after the other, and the row of both.
-use Rattle.std.proofs.Common.{◌≡◌, ℕ, zero, suc, ◌+◌, ◌-◌, ◌<◌, ◌≤◌, min, Bool, true, false, cond, eqb, ◌⊎◌, ◌↔◌, List, length, is_err, Some, None, Ok, Err, Result, sym, refl, ap, ◌∙◌, subst, ap₂, inl, inr, ⊎_elim, arith}
+use Rattle.std.proofs.Common.{◌≡◌, ℕ, zero, suc, ◌+◌, ◌-◌, ◌<◌, ◌≤◌, min, Bool, true, false, cond, eqb, ◌⊎◌, List, is_err, Some, Ok, Err, Result, sym, refl, ap, ◌∙◌, subst, ap₂, inl, inr, ⊎_elim, arith}
 use mathlib.Core.Path.{fun_ext}
-use mathlib.Core.List.{Memᴰ}
 use Rattle.std.proofs.lemmas.Bool.{cases_eq, cond-true, cond-false, eq-eqb, ne_eqb, and_parts, and_from, or_cases, or_left, or_right, false≢true}
 use Rattle.diagrams.specs.declared.Row.{Row}
 use Rattle.diagrams.specs.declared.NoRoom.{NoRoom}
@@ -12,7 +11,6 @@ use Rattle.diagrams.specs.Making.{Adds, Halves, FromOn, half, child}
 use Rattle.diagrams.specs.Books.{together, union_or_intersection, capacity}
 use Rattle.diagrams.specs.declared.Operation.{Operation}
 use Rattle.diagrams.specs.declared.Operation.TheVariants.{Union, Intersection}
-use Rattle.diagrams.specs.Books.{KeptBook}
 use Rattle.diagrams.specs.Applying.{Extends, Fit, Makes, Applies, Shortens, Step}
 use Rattle.diagrams.proofs.Shortening.{position_row}
 use Rattle.diagrams.proofs.Kept.{member_kept, position_kept}

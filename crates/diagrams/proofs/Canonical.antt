@@ -1,10 +1,10 @@
 -- Equal sets have one number: what reading a sound book's rows says determines the number.
-use Rattle.std.proofs.Common.{◌≡◌, ℕ, zero, suc, ◌+◌, ◌*◌, ◌/◌, ◌%◌, ◌^◌, ◌<◌, ◌≤◌, Bool, true, false, cond, eqb, ◌≢◌, ◌⊎◌, List, sym, refl, ap, ◌∙◌, subst, ap₂, inl, inr, ⊎_elim, arith}
-use native.Mathlib.Nat.{div-div-eq-div-mul, pow-succ', pow-zero}
+use Rattle.std.proofs.Common.{◌≡◌, ℕ, zero, suc, ◌+◌, ◌*◌, ◌/◌, ◌%◌, ◌^◌, ◌<◌, ◌≤◌, Bool, true, false, cond, eqb, ◌⊎◌, List, sym, refl, ap, ◌∙◌, ap₂, inl, inr, ⊎_elim, arith}
+use native.Mathlib.Nat.{div-div-eq-div-mul, pow-succ'}
 use Rattle.std.proofs.lemmas.Bool.{eq-eqb, ne_eqb, cond-true, cond-false, cases_lt, true≢false, false≢true}
 use Rattle.diagrams.specs.declared.Row.{Row}
 use Rattle.theory.specs.Rounds.{bit, choice_of}
-use Rattle.diagrams.specs.Diagram.{Sound, Ordered, CanonicalRows, position_of, row_at, walk, member}
+use Rattle.diagrams.specs.Diagram.{Sound, CanonicalRows, position_of, row_at, walk, member}
 
 unit_lt : (b : Bool) → cond b 1 0 < 2
 unit_lt true = omega arith

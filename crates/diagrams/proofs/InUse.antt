@@ -1,14 +1,14 @@
 -- The rows of a book as rows of sets: each is one row, and all rows of a number's set are in use.
-use Rattle.std.proofs.Common.{◌≡◌, ℕ, zero, suc, ◌+◌, ◌^◌, ◌<◌, ◌≤◌, Bool, true, false, cond, eqb, ◌≢◌, ◌⊎◌, ◌↔◌, List, sym, refl, ap, ◌∙◌, subst, ap₂, inl, inr, ⊎_elim, arith}
+use Rattle.std.proofs.Common.{◌≡◌, ℕ, zero, suc, ◌+◌, ◌<◌, ◌≤◌, Bool, true, false, cond, eqb, ◌≢◌, ◌⊎◌, List, sym, refl, ap, ◌∙◌, subst, inl, inr, ⊎_elim, arith}
 use mathlib.Core.Path.{fun_ext}
 use mathlib.Core.Bool.{Bool-discrete}
-use Rattle.std.proofs.lemmas.Bool.{true≢false, false≢true, cond-true, cond-false, cases_eq, cases_Bool}
+use Rattle.std.proofs.lemmas.Bool.{cases_eq}
 use Rattle.diagrams.specs.declared.Row.{Row}
 use Rattle.theory.specs.Counting.{Counts}
-use Rattle.theory.specs.Rounds.{bit, choice_of}
+use Rattle.theory.specs.Rounds.{bit}
 use Rattle.diagrams.specs.Diagram.{Sound, Choices, position_of, row_at, walk, member, put_position, mixed, remainder, Depends, Part, RowOf, part_at, InUse}
 use Rattle.diagrams.proofs.Canonical.{put, half_with, half_without, bit_choice, asks_from, equal_sets_one_number}
-use Rattle.diagrams.proofs.Mixing.{bit_put_same, bit_put_other, bit_mixed_high, top, rows_split}
+use Rattle.diagrams.proofs.Mixing.{bit_mixed_high, rows_split}
 use Rattle.diagrams.specs.Making.{FromOn, half}
 use Rattle.diagrams.proofs.Counted.{counts_listed}
 use Rattle.diagrams.proofs.Kept.{member_kept}

@@ -1,10 +1,10 @@
 -- Rows in use that stay keep their sets, and a sound book stays sound.
-use Rattle.std.proofs.Common.{◌≡◌, ℕ, zero, suc, ◌+◌, ◌^◌, ◌<◌, ◌≤◌, min, Bool, true, false, cond, ◌≢◌, List, length, sym, refl, ap, ◌∙◌, subst, ap₂, arith}
+use Rattle.std.proofs.Common.{◌≡◌, ℕ, zero, suc, ◌+◌, ◌<◌, Bool, true, cond, List, length, sym, refl, ap, ◌∙◌, subst, ap₂, arith}
 use Rattle.std.proofs.lemmas.Bool.{false≢true}
 use Rattle.diagrams.specs.declared.Row.{Row}
 use Rattle.theory.specs.Rounds.{bit}
 use Rattle.diagrams.specs.Diagram.{Sound, Ordered, position_of, row_at, walk, member, put_position}
-use Rattle.diagrams.specs.Books.{opening, capacity}
+use Rattle.diagrams.specs.Books.{opening}
 
 module _ (rows rows' : List Row) (count : ℕ) (sound : Sound rows count) (stay : (r : ℕ) → r < count → row_at rows' r ≡ row_at rows r) where
   pub walk_kept : (k n : ℕ) (has : ℕ → Bool) → n < count + 2 → walk k rows' n has ≡ walk k rows n has

@@ -1,14 +1,13 @@
 -- What is left where a set was made, and where its rows did not fit.
-use Rattle.std.proofs.Common.{◌≡◌, ℕ, ◌+◌, ◌<◌, ◌≤◌, min, ◌⊎◌, ◌↔◌, List, length, sym, refl, ap, ◌∙◌, subst, inl, inr, ⊎_elim, arith}
+use Rattle.std.proofs.Common.{◌≡◌, ℕ, ◌<◌, ◌≤◌, List, ◌∙◌, ⊎_elim, arith}
 use mathlib.Core.Logic.{∥∥₁_elim}
 use native.Mathlib.Nat.{ℕ_set}
 use Rattle.std.proofs.lemmas.Bool.{cases_lt}
-use Rattle.theory.specs.Counting.{MoreThan}
 use Rattle.register.specs.Rows.{Cleared}
 use Rattle.diagrams.specs.declared.Row.{Row}
-use Rattle.diagrams.specs.Diagram.{Choices, Part, RowOf, InUse, Sound, blank, row_at}
+use Rattle.diagrams.specs.Diagram.{Choices, RowOf, InUse, Sound, blank, row_at}
 use Rattle.diagrams.specs.Making.{Adds}
-use Rattle.diagrams.specs.Books.{Keeps, Grows, Wanted, Outnumber, RefusedFull, capacity, KeptBook, book_of}
+use Rattle.diagrams.specs.Books.{Keeps, Grows, Wanted, capacity, KeptBook, book_of}
 use Rattle.diagrams.specs.Applying.{Extends}
 use Rattle.diagrams.proofs.Counted.{counts_iff}
 use Rattle.diagrams.proofs.Kept.{sound_kept}

@@ -1,19 +1,17 @@
 -- One row more or less: the number of a set from the numbers of its two halves.
-use Rattle.std.proofs.Common.{◌≡◌, ℕ, zero, suc, ◌+◌, ◌<◌, ◌≤◌, min, Bool, true, false, cond, ◌≢◌, ◌⊎◌, ◌↔◌, List, ◌∷◌, length, set, sym, refl, ap, ◌∙◌, subst, ap₂, inl, inr, ⊎_elim, arith, length-set, get_or-set_other}
+use Rattle.std.proofs.Common.{◌≡◌, ℕ, suc, ◌<◌, ◌≤◌, min, Bool, true, false, cond, ◌≢◌, ◌⊎◌, ◌↔◌, List, ◌∷◌, length, set, sym, refl, ap, ◌∙◌, subst, inl, inr, ⊎_elim, arith, length-set, get_or-set_other}
 use mathlib.Core.Path.{fun_ext}
 use mathlib.Core.List.Memᴰ
-use mathlib.Core.List.{Memᴰ}
-use Rattle.std.proofs.lemmas.Bool.{cases_eq, cases_Bool}
+use Rattle.std.proofs.lemmas.Bool.{cases_eq}
 use Rattle.diagrams.specs.declared.Row.{Row}
 use Rattle.theory.specs.Counting.{MoreThan}
 use Rattle.theory.specs.Rounds.{bit}
-use Rattle.diagrams.specs.Diagram.{Choices, Part, RowOf, InUse, Sound, Ordered, Depends, blank, row_at, position_of, member, walk, part_at, remainder, put_position, mixed}
-use Rattle.diagrams.specs.Making.{Adds, Halves, FromOn, half}
+use Rattle.diagrams.specs.Diagram.{Choices, Part, RowOf, InUse, Sound, Ordered, Depends, blank, row_at, member, part_at, remainder, put_position, mixed}
+use Rattle.diagrams.specs.Making.{Adds, Halves, half}
 use Rattle.diagrams.specs.Applying.{row_with}
 use Rattle.diagrams.proofs.Canonical.{at_row, equal_sets_one_number}
-use Rattle.diagrams.proofs.Kept.{member_kept}
-use Rattle.diagrams.proofs.Mixing.{top, rows_split, bit_put_same, bit_put_other, bit_mixed_high}
-use Rattle.diagrams.proofs.InUse.{differ_or_agree, member_from_on, with_half, without_half, counts_in_use, part_kept}
+use Rattle.diagrams.proofs.Mixing.{rows_split, bit_put_same, bit_put_other, bit_mixed_high}
+use Rattle.diagrams.proofs.InUse.{differ_or_agree, member_from_on, with_half, without_half, counts_in_use}
 use Rattle.diagrams.proofs.Appended.{new_member, sound_appended, in_use_appended}
 
 pub member_row : (rows : List Row) (count : ℕ) → Sound rows count → (r c : ℕ) → r < count

@@ -1,10 +1,9 @@
 -- What the number of a row needs, by how it is come by.
-use Rattle.std.proofs.Common.{◌≡◌, ℕ, suc, ◌+◌, ◌<◌, ◌≤◌, min, Bool, true, false, ◌≢◌, ◌⊎◌, List, length, set, Ok, Err, Result, sym, refl, ap, ◌∙◌, subst, inl, inr, ⊎_elim, arith, length-set, get_or-set_other, get_or-set_same}
+use Rattle.std.proofs.Common.{◌≡◌, ℕ, suc, ◌+◌, ◌<◌, ◌≤◌, ◌≢◌, List, set, Ok, Err, sym, refl, ◌∙◌, subst, arith, length-set, get_or-set_other}
 use Rattle.diagrams.specs.declared.Row.{Row}
 use Rattle.diagrams.specs.declared.NoRoom.{NoRoom}
-use Rattle.theory.specs.Counting.{MoreThan}
-use Rattle.diagrams.specs.Diagram.{Choices, Part, RowOf, InUse, Sound, Ordered, blank, row_at, position_of, member}
-use Rattle.diagrams.specs.Making.{Adds, Halves, half}
+use Rattle.diagrams.specs.Diagram.{Sound, Ordered, blank, row_at}
+use Rattle.diagrams.specs.Making.{Adds}
 use Rattle.diagrams.specs.Books.{capacity}
 use Rattle.diagrams.specs.Books.{KeptBook}
 use Rattle.diagrams.specs.Applying.{row_with, Absent, Extends, Fit, Makes}

@@ -1,11 +1,11 @@
 -- Choices put together from the positions of others, and what a set's remainders are.
-use Rattle.std.proofs.Common.{◌≡◌, ℕ, zero, suc, ◌+◌, ◌*◌, ◌/◌, ◌%◌, ◌^◌, ◌<◌, ◌≤◌, Bool, true, false, cond, eqb, ltb, ◌≢◌, ◌⊎◌, ◌↔◌, sym, refl, ap, ◌∙◌, subst, ap₂, inl, inr, ⊎_elim, arith}
+use Rattle.std.proofs.Common.{◌≡◌, ℕ, zero, suc, ◌+◌, ◌*◌, ◌<◌, ◌≤◌, Bool, true, false, cond, eqb, ltb, ◌⊎◌, ◌↔◌, sym, refl, ap, ◌∙◌, subst, ap₂, inl, inr, ⊎_elim, arith}
 use mathlib.Core.Path.{fun_ext}
 use Rattle.std.proofs.lemmas.Bool.{eq-eqb, ne_eqb, lt-ltb, le-ltb, cond-true, cond-false, cases_lt, cases_eq, cases_order, cases_Bool}
 use Rattle.theory.specs.Rounds.{bit, choice_of}
 use Rattle.diagrams.specs.Making.{FromOn, half}
 use Rattle.diagrams.specs.Diagram.{Choices, put_position, mixed, remainder, Depends, Part, RowOf}
-use Rattle.diagrams.proofs.Canonical.{bit_choice, choice_lt}
+use Rattle.diagrams.proofs.Canonical.{bit_choice}
 
 -- a choice is told by its positions
 pub choice_ext : (n : ℕ) (has has' : ℕ → Bool) → ((k : ℕ) → k < n → has k ≡ has' k) → choice_of n has ≡ choice_of n has'

@@ -1,10 +1,9 @@
 -- The choices that have a position: the set's halves are no choice and all choices, which have no rows.
-use Rattle.std.proofs.Common.{◌≡◌, ℕ, ◌+◌, ◌<◌, ◌≤◌, Bool, true, false, ◌⊎◌, List, Ok, sym, refl, ap, ◌∙◌, subst, inl, inr, ⊎_elim, arith}
+use Rattle.std.proofs.Common.{◌≡◌, ℕ, ◌<◌, Bool, true, false, List, Ok, sym, refl, ap, ◌∙◌, inl, ⊎_elim, arith}
 use Rattle.theory.specs.Rounds.{bit}
 use Rattle.diagrams.specs.declared.Row.{Row}
-use Rattle.diagrams.specs.Diagram.{Choices, Part, RowOf, Sound, member, put_position, mixed}
+use Rattle.diagrams.specs.Diagram.{Choices, Part, RowOf, Sound, put_position, mixed}
 use Rattle.diagrams.specs.Making.{Adds, Halves, half}
-use Rattle.diagrams.specs.Books.{KeptBook}
 use Rattle.diagrams.specs.Applying.{Fit, Makes}
 use Rattle.diagrams.proofs.Mixing.{bit_put_same}
 use Rattle.diagrams.proofs.Shortening.{member_0, member_1}

@@ -1,10 +1,10 @@
 -- The recursion of a join: a set's halves, made one after the other, are what its own row needs; and the half of a number is its child.
-use Rattle.std.proofs.Common.{◌≡◌, ℕ, zero, suc, ◌+◌, ◌<◌, ◌≤◌, Bool, true, false, cond, eqb, ◌⊎◌, ◌↔◌, List, sym, refl, ap, ◌∙◌, subst, inl, inr, ⊎_elim, arith}
+use Rattle.std.proofs.Common.{◌≡◌, ℕ, zero, suc, ◌+◌, ◌<◌, ◌≤◌, Bool, true, false, cond, eqb, List, sym, ap, ◌∙◌, subst, inl, inr, ⊎_elim, arith}
 use mathlib.Core.Path.{fun_ext}
 use Rattle.std.proofs.lemmas.Bool.{cases_eq, cases_lt, cond-true, cond-false, eq-eqb, ne_eqb}
 use Rattle.diagrams.specs.declared.Row.{Row}
 use Rattle.theory.specs.Rounds.{bit}
-use Rattle.diagrams.specs.Diagram.{Choices, Part, RowOf, InUse, Sound, row_at, position_of, member, part_at, put_position}
+use Rattle.diagrams.specs.Diagram.{Choices, Part, RowOf, Sound, row_at, position_of, member, part_at, put_position}
 use Rattle.diagrams.specs.Making.{Adds, Halves, FromOn, half, child}
 use Rattle.diagrams.specs.Books.{together, union_or_intersection}
 use Rattle.diagrams.specs.declared.Operation.{Operation}

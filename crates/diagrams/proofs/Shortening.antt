@@ -1,9 +1,9 @@
 -- Joins that ask for no row, and the parts of a row that is read.
-use Rattle.std.proofs.Common.{◌≡◌, ℕ, zero, suc, ◌+◌, ◌-◌, ◌<◌, ◌≤◌, Bool, true, false, cond, ◌&&◌, ◌||◌, eqb, ◌⊎◌, List, Some, None, sym, refl, ap, ◌∙◌, subst, inl, inr, ⊎_elim, arith}
+use Rattle.std.proofs.Common.{◌≡◌, ℕ, suc, ◌-◌, ◌≤◌, Bool, true, false, cond, ◌&&◌, ◌||◌, eqb, List, Some, sym, refl, ap, ◌∙◌, inl, inr, arith}
 use Rattle.diagrams.specs.declared.Row.{Row}
 use Rattle.diagrams.specs.Diagram.{row_at, member, position_of}
 use Rattle.diagrams.specs.Making.{child}
-use Rattle.diagrams.specs.Books.{together, union_or_intersection}
+use Rattle.diagrams.specs.Books.{together}
 use Rattle.diagrams.specs.declared.Operation.{Operation}
 use Rattle.diagrams.specs.declared.Operation.TheVariants.{Union, Intersection}
 use Rattle.diagrams.specs.Applying.{Shortens}

@@ -1,5 +1,5 @@
 -- That rows are sound is a proposition, so a ghost field may hold it truncated and a proof may use it whole.
-use Rattle.std.proofs.Common.{◌≡◌, ℕ, true, List}
+use Rattle.std.proofs.Common.{ℕ, true, List}
 use mathlib.Core.HLevel.{¬_prop}
 use mathlib.Core.Logic.{∥∥₁_elim}
 use mathlib.Core.Bool.{Bool-set}

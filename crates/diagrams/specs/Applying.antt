@@ -8,11 +8,11 @@
 --   Applies   the number of a set, or too many rows
 --   Shortens  the number of a union or an intersection that asks for no row
 --   Step      two numbers of rows, the first position that they ask for, and the numbers of their halves there
-use Rattle.std.specs.Prelude.{◌≡◌, ℕ, ◌+◌, ◌<◌, ◌≤◌, min, Bool, true, false, ◌≢◌, ◌⊎◌, List, length, Some, None, Ok, Err, Option, Result}
+use Rattle.std.specs.Prelude.{◌≡◌, ℕ, ◌+◌, ◌<◌, ◌≤◌, min, true, false, ◌≢◌, ◌⊎◌, List, length, Some, None, Ok, Err, Option, Result}
 use Rattle.diagrams.specs.declared.Row.{Row}
 use Rattle.diagrams.specs.declared.NoRoom.{NoRoom}
 use Rattle.theory.specs.Counting.{MoreThan}
-use Rattle.diagrams.specs.Diagram.{Choices, Part, RowOf, InUse, Sound, row_at, member, position_of, blank}
+use Rattle.diagrams.specs.Diagram.{Choices, RowOf, InUse, Sound, row_at, member, position_of}
 use Rattle.diagrams.specs.Making.{Adds, Halves, child}
 use Rattle.diagrams.specs.Books.{capacity, union_or_intersection, KeptBook}
 use Rattle.diagrams.specs.declared.Operation.{Operation}

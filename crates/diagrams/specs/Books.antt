@@ -12,12 +12,12 @@
 --   together               both, or at least one of two
 --   union_or_intersection  the set of choices that two numbers have together
 --   KeptBook               what always holds of a book
-use Rattle.std.specs.Prelude.{◌≡◌, ℕ, ◌+◌, ◌<◌, ◌≤◌, min, Bool, true, false, ◌&&◌, ◌||◌, ◌⊎◌, ◌↔◌, List, ◌++◌, length, drop, replicate}
+use Rattle.std.specs.Prelude.{◌≡◌, ℕ, ◌+◌, ◌<◌, ◌≤◌, min, Bool, ◌&&◌, ◌||◌, ◌⊎◌, ◌↔◌, List, ◌++◌, length, drop, replicate}
 use Rattle.theory.specs.Counting.{Counts, MoreThan}
 use Rattle.diagrams.specs.declared.Row.{Row}
 use Rattle.diagrams.specs.declared.Operation.{Operation}
 use Rattle.diagrams.specs.declared.Operation.TheVariants.{Union, Intersection}
-use Rattle.diagrams.specs.Diagram.{Choices, Part, RowOf, InUse, Sound, blank, row_at, member}
+use Rattle.diagrams.specs.Diagram.{Choices, Part, InUse, Sound, blank, row_at, member}
 
 pub record Book : Type 0 where
   pub rows : List Row

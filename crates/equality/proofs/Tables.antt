@@ -1,5 +1,5 @@
 -- That a list of terms is a table is a proposition, so a ghost field may hold it truncated and a proof may use it whole.
-use Rattle.std.proofs.Common.{◌≡◌, ℕ, List}
+use Rattle.std.proofs.Common.{List}
 use mathlib.Core.Logic.{∥∥₁_elim}
 use native.Mathlib.Nat.{ℕ_set}
 use native.Mathlib.Bridge.{le_prop}

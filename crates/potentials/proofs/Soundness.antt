@@ -1,5 +1,5 @@
 -- Models uphold every rule of the theory of differences, and make exactly one of a fact and its opposite true: the first law and the third.
-use Rattle.std.proofs.Common.{◌≡◌, ℕ, ◌<◌, true, not, ◌⊎◌, List, ℤ, Some, None, Option, sym, ap, ◌∙◌, subst, ⊎_elim, arith}
+use Rattle.std.proofs.Common.{◌≡◌, ℕ, ◌<◌, true, not, List, ℤ, Some, None, Option, sym, ap, ◌∙◌, subst, ⊎_elim, arith}
 use Rattle.std.proofs.lemmas.Bool.{cases_lt, and_parts}
 use Rattle.theory.specs.declared.Rule.{Rule}
 use Rattle.theory.specs.Theory.{Facts, premised, conclusion, stands}

@@ -1,6 +1,6 @@
 -- The three ways of putting a row.
-use Rattle.std.proofs.Common.{◌≡◌, ℕ, ◌+◌, ◌<◌, ◌≤◌, min, ◌≢◌, List, length, get_or, set, Some, None, sym, refl, ap, ◌∙◌, inl, inr, arith, length-set, get_or-set_other, get_or-set_same}
-use Rattle.register.specs.Rows.{Absent, Finds, Puts}
+use Rattle.std.proofs.Common.{◌≡◌, ℕ, ◌+◌, ◌<◌, ◌≤◌, min, ◌≢◌, List, length, get_or, set, Some, None, refl, ap, inl, inr, arith, length-set, get_or-set_other, get_or-set_same}
+use Rattle.register.specs.Rows.{Finds}
 use Rattle.register.specs.Chains.{bucket, Indexed, Put}
 use Rattle.register.proofs.Linking.{indexed_same, linked_row}
 

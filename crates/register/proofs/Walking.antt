@@ -1,8 +1,7 @@
 -- A walk down a chain has passed every row of its bucket at or behind the link.
-use Rattle.std.proofs.Common.{◌≡◌, ℕ, ◌+◌, ◌-◌, ◌<◌, ◌≤◌, min, ◌⊎◌, List, length, get_or, sym, refl, ap, ◌∙◌, subst, inl, inr, ⊎_elim, arith}
+use Rattle.std.proofs.Common.{◌≡◌, ℕ, ◌+◌, ◌<◌, ◌≤◌, min, List, length, get_or, sym, ap, ◌∙◌, subst, ⊎_elim, arith}
 use Rattle.std.proofs.lemmas.Bool.{cases_order}
-use Rattle.register.specs.Rows.{Absent}
-use Rattle.register.specs.Chains.{bucket, Links, Indexed}
+use Rattle.register.specs.Chains.{bucket, Indexed}
 
 -- the rows from a link on are other rows than the one looked for, and the link leads into its bucket
 pub record Passed {R : Type 0} (hash : R → ℕ) (buckets : ℕ) (rows : List R) (count : ℕ) (row : R) (link : ℕ) : Type 0 where

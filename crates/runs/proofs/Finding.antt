@@ -1,9 +1,8 @@
 -- The first equal number is that of the first answer with the same choices.
-use Rattle.std.proofs.Common.{◌≡◌, ℕ, zero, suc, ◌<◌, ◌≤◌, List, [], ◌∷◌, map, length, get_or, sym, refl, ap, ◌∙◌, arith}
+use Rattle.std.proofs.Common.{◌≡◌, ℕ, zero, suc, ◌<◌, ◌≤◌, List, [], ◌∷◌, length, get_or, sym, refl, ap, ◌∙◌, arith}
 use mathlib.Core.List.{Memᴰ}
 use Rattle.std.proofs.lemmas.List.{length-map, get_or-map}
-use Rattle.diagrams.specs.Books.{Book}
-use Rattle.book.specs.Runs.{Given, Run}
+use Rattle.book.specs.Runs.{Given}
 use Rattle.runs.specs.Statements.{FirstSame}
 use Rattle.runs.proofs.Telling.{equal_numbers_equal_choices}
 

@@ -24,7 +24,7 @@ use Rattle.theory.specs.Abstraction.{ask, with_opposites, FullCase, Implies}
 use Rattle.diagrams.specs.declared.Row.{Row}
 use Rattle.diagrams.specs.declared.Operation.{Operation}
 use Rattle.diagrams.specs.declared.Operation.TheVariants.{Union, Intersection}
-use Rattle.diagrams.specs.Diagram.{Part, RowOf, member}
+use Rattle.diagrams.specs.Diagram.{RowOf, member}
 use Rattle.diagrams.specs.Books.{Book, Held, Outnumber, Grows, RefusedFull, opening, union_or_intersection}
 use Rattle.saturation.specs.Statements.{WorkingRow}
 use Rattle.book.specs.declared.faults.QuestionFault.{QuestionFault}

@@ -1,13 +1,12 @@
 -- The rules derive the contradiction from exactly the impossible choices.
 use Rattle.saturation.specs.Statements.{BelongingIsImpossible}
-use Rattle.std.proofs.Common.{◌≡◌, ℕ, zero, suc, ◌<◌, Bool, true, false, not, ◌&&◌, ◌||◌, eqb, ◌⊎◌, ◌↔◌, List, length, get_or, ℤ, Some, None, Option, sym, refl, ap, ◌∙◌, subst, inl, inr, ⊎_elim}
+use Rattle.std.proofs.Common.{◌≡◌, ℕ, zero, suc, ◌<◌, true, false, not, ◌&&◌, eqb, List, length, get_or, ℤ, Some, Option, sym, refl, ap, ◌∙◌, subst, ⊎_elim}
 use Rattle.std.proofs.lemmas.Bool.{false≢true, both_ways, eqb-true, eq-eqb, and_parts, and_from, or_cases, or_left, or_right, cases_Bool, not-true}
 use Rattle.theory.specs.declared.Conclusion.{Conclusion}
 use Rattle.theory.specs.declared.Conclusion.TheVariants.{Fact, Contradiction}
-use Rattle.theory.specs.declared.Rule.{Rule}
 use Rattle.theory.specs.Theory.{Meaning, Lawful, Closed, Clear, conclusion, premised, stands}
 use Rattle.theory.specs.Rounds.{Question, Proper, Gathered, bit, some_below, facts_of, opposes, start, after, Derives, Impossible}
-use Rattle.saturation.proofs.Closing.{some_from, some_since, premised_more, round_from, round_since, Still, later, from_start, Ending, ending}
+use Rattle.saturation.proofs.Closing.{some_from, some_since, premised_more, round_from, round_since, from_start, Ending, ending}
 
 opposes_some : (o : Option ℕ) (g f : ℕ) → o ≡ Some g → opposes o f ≡ true → g ≡ f
 opposes_some o g f e h = eqb-true g f (subst (λ z. opposes z f ≡ true) e h)

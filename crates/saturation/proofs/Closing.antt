@@ -1,11 +1,11 @@
 -- A choice's rounds come to an end: after at most F + 1 gaining rounds, one adds nothing.
-use Rattle.std.proofs.Common.{◌≡◌, ℕ, zero, suc, ◌+◌, ◌<◌, ◌≤◌, Bool, true, false, cond, ◌&&◌, ◌||◌, eqb, ltb, ◌⊎◌, Some, None, Option, sym, refl, ap, ◌∙◌, subst, inl, inr, ⊎_elim, arith}
-use Rattle.std.proofs.lemmas.Bool.{true≢false, false≢true, both_ways, eqb-true, eq-eqb, lt-ltb, le-ltb, and_parts, and_from, or_cases, or_left, or_right, cases_Bool, cases_eq, cases_lt, cond-true, cond-false}
+use Rattle.std.proofs.Common.{◌≡◌, ℕ, zero, suc, ◌+◌, ◌<◌, ◌≤◌, Bool, true, false, cond, ltb, ◌⊎◌, Some, None, Option, sym, refl, ap, ◌∙◌, subst, inl, inr, ⊎_elim, arith}
+use Rattle.std.proofs.lemmas.Bool.{false≢true, both_ways, eqb-true, eq-eqb, lt-ltb, le-ltb, and_parts, and_from, or_cases, or_left, or_right, cases_Bool, cases_eq, cases_lt, cond-true, cond-false}
 use Rattle.theory.specs.declared.Conclusion.{Conclusion}
 use Rattle.theory.specs.declared.Conclusion.TheVariants.{Fact, Contradiction}
 use Rattle.theory.specs.declared.Rule.{Rule}
 use Rattle.theory.specs.declared.Rule.TheVariants.{Always, From, Both}
-use Rattle.theory.specs.Theory.{Meaning, Lawful, conclusion, premised, Names}
+use Rattle.theory.specs.Theory.{Meaning, Lawful, conclusion, premised}
 use Rattle.theory.specs.Rounds.{Question, Gathered, some_below, facts_of, same, gives, round, start, after}
 
 pub some_from : (n : ℕ) (p : ℕ → Bool) → some_below n p ≡ true → (i : ℕ) × (i < n) × (p i ≡ true)

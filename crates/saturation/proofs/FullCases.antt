@@ -1,10 +1,10 @@
 -- A full case belongs to an abstraction exactly when it implies the disjunction of the goals.
 use Rattle.saturation.specs.Statements.{FullCasesImply}
-use Rattle.std.proofs.Common.{◌≡◌, ℕ, zero, suc, ◌+◌, ◌*◌, ◌/◌, ◌%◌, ◌<◌, ◌≤◌, Bool, true, false, not, ◌⊎◌, ◌↔◌, List, [], ◌∷◌, length, get_or, ℤ, Some, None, Option, sym, refl, ap, ◌∙◌, subst, inl, inr, ⊎_elim, arith}
+use Rattle.std.proofs.Common.{◌≡◌, ℕ, zero, suc, ◌+◌, ◌*◌, ◌/◌, ◌%◌, ◌<◌, Bool, true, false, not, ◌⊎◌, List, [], ◌∷◌, length, get_or, ℤ, sym, refl, ap, ◌∙◌, subst, inl, inr, ⊎_elim, arith}
 use mathlib.Core.Logic.Iff
-use Rattle.std.proofs.lemmas.Bool.{both_ways, cases_Bool, not-true, not_from_true, not_from_false, cases_eq}
+use Rattle.std.proofs.lemmas.Bool.{both_ways, cases_Bool, not-true, not_from_false, cases_eq}
 use Rattle.theory.specs.Theory.{Meaning, Lawful}
-use Rattle.theory.specs.Rounds.{Question, Proper, bit, Impossible}
+use Rattle.theory.specs.Rounds.{Proper, bit, Impossible}
 use Rattle.theory.specs.Abstraction.{ask, or_0, with_opposites, FullCase, Implies}
 use Rattle.saturation.proofs.Belonging.{belonging_is_impossible}
 

@@ -1,5 +1,5 @@
 -- What stands stays as rows are added, and one place of a round after the other.
-use Rattle.std.proofs.Common.{◌≡◌, ℕ, zero, suc, ◌+◌, ◌<◌, ◌≤◌, Bool, true, false, ◌&&◌, ◌||◌, ◌≢◌, ◌⊎◌, ◌↔◌, List, length, get_or, set, Some, None, Option, sym, refl, ap, ◌∙◌, subst, ap₂, inl, inr, ⊎_elim, arith, get_or-set_other, get_or-set_same}
+use Rattle.std.proofs.Common.{◌≡◌, ℕ, suc, ◌+◌, ◌<◌, ◌≤◌, Bool, true, false, ◌&&◌, ◌||◌, ◌⊎◌, ◌↔◌, List, length, get_or, set, Some, None, Option, sym, refl, ap, ◌∙◌, subst, ap₂, inl, inr, ⊎_elim, arith, get_or-set_other, get_or-set_same}
 use mathlib.Core.Path.{fun_ext}
 use Rattle.std.proofs.lemmas.Bool.{both_ways, cases_Bool, cases_eq}
 use Rattle.diagrams.specs.declared.Row.{Row}
@@ -10,8 +10,8 @@ use Rattle.theory.specs.declared.Rule.{Rule}
 use Rattle.theory.specs.declared.Rule.TheVariants.{Always, From, Both}
 use Rattle.theory.specs.Theory.{Meaning, Names, conclusion, premised}
 use Rattle.theory.specs.Counting.{MoreThan}
-use Rattle.theory.specs.Rounds.{Gathered, some_below, facts_of, same, gives}
-use Rattle.diagrams.specs.Diagram.{Choices, Part, RowOf, InUse, Sound, row_at, member}
+use Rattle.theory.specs.Rounds.{some_below, facts_of, same, gives}
+use Rattle.diagrams.specs.Diagram.{Choices, RowOf, InUse, Sound, row_at, member}
 use Rattle.diagrams.specs.Making.{Adds}
 use Rattle.diagrams.specs.Books.{capacity, union_or_intersection}
 use Rattle.diagrams.proofs.Kept.{member_kept}

@@ -1,12 +1,11 @@
 -- The round count of a question: it exists, is at most F + 1, and is the number of the first round that changes no set.
 use Rattle.saturation.specs.Statements.{RoundsAreFew}
-use Rattle.std.proofs.Common.{◌≡◌, ℕ, zero, suc, ◌+◌, ◌^◌, ◌<◌, ◌≤◌, Bool, true, false, ◌⊎◌, ◌↔◌, sym, refl, ap, ◌∙◌, subst, inl, inr, ⊎_elim, arith}
+use Rattle.std.proofs.Common.{◌≡◌, ℕ, zero, suc, ◌+◌, ◌^◌, ◌<◌, ◌≤◌, sym, subst, ⊎_elim, arith}
 use Rattle.std.proofs.lemmas.Bool.{both_ways, cases_lt, cases_eq}
-use Rattle.theory.specs.declared.Conclusion.{Conclusion}
 use Rattle.theory.specs.Theory.{Meaning, Lawful}
-use Rattle.theory.specs.Rounds.{Question, Proper, round, after, Gains, Gaining, RoundCount}
+use Rattle.theory.specs.Rounds.{Question, after, Gains, Gaining, RoundCount}
 use Rattle.saturation.specs.Working.{Changes, Made}
-use Rattle.saturation.proofs.Closing.{Still, round_more, later, Ending, ending}
+use Rattle.saturation.proofs.Closing.{Still, round_more, Ending, ending}
 use Rattle.diagrams.proofs.Counted.{counts_unique, counts_iff, counts_below}
 
 -- the greatest of g 0 to g (n - 1)

@@ -1,16 +1,15 @@
 -- What a saturation needs: the quiet round decides, sets made one after the other add exactly their rows, and the last state is what a question leaves.
 use Rattle.saturation.specs.Statements.{WorkingRow}
-use Rattle.std.proofs.Common.{◌≡◌, ℕ, zero, suc, ◌+◌, ◌^◌, ◌<◌, ◌≤◌, Bool, true, false, ◌⊎◌, ◌↔◌, List, length, sym, refl, ap, ◌∙◌, subst, inl, inr, ⊎_elim, arith}
+use Rattle.std.proofs.Common.{◌≡◌, ℕ, zero, suc, ◌+◌, ◌^◌, ◌<◌, ◌≤◌, true, ◌⊎◌, ◌↔◌, List, refl, ◌∙◌, subst, inl, inr, ⊎_elim, arith}
 use mathlib.Core.Logic.Iff
-use mathlib.Core.List.{Memᴰ}
-use Rattle.std.proofs.lemmas.Bool.{both_ways, cases_Bool, cases_lt}
+use Rattle.std.proofs.lemmas.Bool.{cases_Bool, cases_lt}
 use Rattle.diagrams.specs.declared.Row.{Row}
 use Rattle.theory.specs.declared.Conclusion.{Conclusion}
-use Rattle.theory.specs.declared.Conclusion.TheVariants.{Fact, Contradiction}
+use Rattle.theory.specs.declared.Conclusion.TheVariants.{Contradiction}
 use Rattle.theory.specs.Theory.{Meaning, Lawful}
 use Rattle.theory.specs.Counting.{MoreThan}
-use Rattle.theory.specs.Rounds.{Question, after, round, Derives}
-use Rattle.diagrams.specs.Diagram.{Choices, Part, RowOf, InUse, Sound, row_at}
+use Rattle.theory.specs.Rounds.{Question, after, Derives}
+use Rattle.diagrams.specs.Diagram.{Choices, Part, RowOf, InUse, Sound}
 use Rattle.saturation.specs.Working.{Working, Changes}
 use Rattle.saturation.specs.Stages.{Progress, TooMany}
 use Rattle.diagrams.specs.Making.{Adds}

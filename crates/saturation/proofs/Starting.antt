@@ -1,20 +1,20 @@
 -- What stands before the first round: the positions of the predicates one after the other, then the goals.
-use Rattle.std.proofs.Common.{◌≡◌, ℕ, zero, suc, ◌+◌, ◌<◌, ◌≤◌, Bool, true, false, ◌&&◌, ◌||◌, eqb, ◌≢◌, ◌⊎◌, ◌↔◌, List, length, get_or, set, Some, None, Option, sym, refl, ap, ◌∙◌, subst, ap₂, inl, inr, ⊎_elim, arith, get_or-set_other, get_or-set_same}
+use Rattle.std.proofs.Common.{◌≡◌, ℕ, suc, ◌+◌, ◌<◌, ◌≤◌, Bool, true, false, ◌&&◌, ◌||◌, ◌⊎◌, List, length, get_or, set, Some, None, sym, refl, ap, ◌∙◌, subst, ap₂, inl, inr, ⊎_elim, arith, get_or-set_other, get_or-set_same}
 use mathlib.Core.Path.{fun_ext}
-use Rattle.std.proofs.lemmas.Bool.{cases_Bool, cases_eq, eq-eqb, ne_eqb}
+use Rattle.std.proofs.lemmas.Bool.{cases_eq, eq-eqb, ne_eqb}
 use Rattle.diagrams.specs.declared.Row.{Row}
 use Rattle.diagrams.specs.declared.Operation.TheVariants.{Union}
 use Rattle.theory.specs.declared.Conclusion.{Conclusion}
 use Rattle.theory.specs.declared.Conclusion.TheVariants.{Fact, Contradiction}
 use Rattle.theory.specs.Theory.{Meaning}
 use Rattle.theory.specs.Counting.{MoreThan}
-use Rattle.theory.specs.Rounds.{Question, bit, some_below, opposes, start}
+use Rattle.theory.specs.Rounds.{bit, some_below, opposes, start}
 use Rattle.theory.specs.Abstraction.{ask}
-use Rattle.diagrams.specs.Diagram.{Choices, Part, RowOf, InUse, Sound, member}
+use Rattle.diagrams.specs.Diagram.{Choices, RowOf, InUse, Sound, member}
 use Rattle.diagrams.specs.Making.{Adds}
 use Rattle.diagrams.specs.Books.{capacity, union_or_intersection}
 use Rattle.diagrams.proofs.Shortening.{member_0, member_1}
-use Rattle.saturation.specs.Stages.{Family, slot, Known, first_half, second_half, Stands, Half, started, StartSet, position_set, predicate_set, opposed, TooMany, BothHalves, Begun, Started}
+use Rattle.saturation.specs.Stages.{Family, slot, Known, first_half, Stands, Half, started, StartSet, position_set, predicate_set, opposed, TooMany, BothHalves, Begun, Started}
 use Rattle.saturation.proofs.Saturating.{no_progress, set_made, progress_on, same_progress, too_many_since}
 use Rattle.saturation.proofs.Placing.{stands_later, stands_same, half_later, slot_below, or_here, or_other, or_false}
 

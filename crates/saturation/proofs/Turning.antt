@@ -1,23 +1,22 @@
 -- A round and the next: what settling says of the sets, and rounds one after the other.
-use Rattle.std.proofs.Common.{◌≡◌, ℕ, zero, suc, ◌+◌, ◌^◌, ◌<◌, ◌≤◌, Bool, true, false, ◌||◌, ◌≢◌, ◌⊎◌, ◌↔◌, List, length, get_or, Some, None, Option, sym, refl, ap, ◌∙◌, subst, inl, inr, ⊎_elim, arith}
-use Rattle.std.proofs.lemmas.Bool.{both_ways, cases_Bool, cases_eq, cases_lt, or_left}
+use Rattle.std.proofs.Common.{◌≡◌, ℕ, suc, ◌+◌, ◌^◌, ◌<◌, ◌≤◌, Bool, true, false, ◌≢◌, ◌⊎◌, ◌↔◌, List, length, Some, sym, refl, ap, ◌∙◌, subst, inl, inr, ⊎_elim, arith}
+use Rattle.std.proofs.lemmas.Bool.{both_ways, cases_eq, cases_lt, or_left}
 use Rattle.diagrams.specs.declared.Row.{Row}
 use Rattle.theory.specs.declared.Conclusion.{Conclusion}
 use Rattle.theory.specs.declared.Conclusion.TheVariants.{Fact, Contradiction}
 use Rattle.theory.specs.declared.Rule.{Rule}
 use Rattle.theory.specs.Theory.{Meaning, Lawful}
-use Rattle.theory.specs.Rounds.{Question, round, start, after, Derives}
+use Rattle.theory.specs.Rounds.{Question, round, start, after}
 use Rattle.diagrams.specs.Diagram.{Choices, Part, RowOf, Sound, member}
 use Rattle.diagrams.proofs.Canonical.{equal_sets_one_number}
 use Rattle.diagrams.proofs.InUse.{differ_or_agree}
 use Rattle.diagrams.proofs.Positions.{constant_rowless}
 use Rattle.saturation.specs.Working.{Changes, Made, Working, position, predicate, goal, premises, concluded}
-use Rattle.saturation.specs.Stages.{Family, slot, Known, first_half, second_half, Stands, RoundSet, premises_set, conclusion_set, StartSet, position_set, predicate_set, Progress, TooMany, InRound, BothHalves, Settled, Turned, RoundsSet, AfterRounds, QuietAt, Saturated}
-use Rattle.saturation.proofs.Closing.{Still, round_from, some_not_none, later, ending}
+use Rattle.saturation.specs.Stages.{Family, slot, Known, first_half, second_half, RoundSet, premises_set, conclusion_set, StartSet, position_set, predicate_set, Progress, TooMany, InRound, BothHalves, Settled, Turned, RoundsSet, AfterRounds, QuietAt, Saturated}
+use Rattle.saturation.proofs.Closing.{round_from, some_not_none, ending}
 use Rattle.saturation.proofs.RoundCount.{still_later, first_quiet}
 use Rattle.saturation.proofs.Saturating.{quiet_still, derives_at, no_progress, progress_on, same_progress, same_rows, too_many_more, too_many_since}
 use Rattle.saturation.proofs.Placing.{stands_same, slot_below, concluded_known}
-use Rattle.theory.specs.Abstraction.{ask}
 
 -- each slot is that of a fact or of the contradiction
 in_slot : (facts k : ℕ) → k < facts + 1 → (x : Conclusion) × Known facts x × (slot facts x ≡ k)

@@ -1,13 +1,13 @@
 -- Adding a position to a choice never takes it out of a working set.
-use Rattle.std.proofs.Common.{◌≡◌, ℕ, zero, suc, ◌<◌, ◌≤◌, Bool, true, false, ◌&&◌, ◌||◌, eqb, ◌⊎◌, length, get_or, Some, None, Option, sym, refl, ap, ◌∙◌, subst, inl, inr, ⊎_elim, arith}
-use Rattle.std.proofs.lemmas.Bool.{and_parts, and_from, or_cases, or_left, or_right, cases_eq}
+use Rattle.std.proofs.Common.{◌≡◌, ℕ, zero, suc, ◌<◌, ◌≤◌, Bool, true, ◌&&◌, eqb, length, get_or, Some, None, Option, refl, ⊎_elim, arith}
+use Rattle.std.proofs.lemmas.Bool.{and_parts, and_from, or_cases, or_left, or_right}
 use Rattle.theory.specs.declared.Conclusion.{Conclusion}
 use Rattle.theory.specs.declared.Conclusion.TheVariants.{Fact, Contradiction}
 use Rattle.theory.specs.declared.Rule.{Rule}
 use Rattle.theory.specs.Theory.{Meaning, Lawful, conclusion, premised}
-use Rattle.theory.specs.Rounds.{Question, Proper, Gathered, bit, some_below, facts_of, same, opposes, start, gives, round, after}
-use Rattle.diagrams.specs.Diagram.{Choices, put_position}
-use Rattle.saturation.specs.Working.{Working, position, predicate, goal, premises, concluded, gathered_start, gathered_round}
+use Rattle.theory.specs.Rounds.{Question, Proper, Gathered, bit, some_below, facts_of, same, start, gives, after}
+use Rattle.diagrams.specs.Diagram.{Choices}
+use Rattle.saturation.specs.Working.{Working, position, predicate, goal, premises, concluded, gathered_start}
 use Rattle.saturation.proofs.Closing.{some_from, some_since, premised_more, round_more}
 use Rattle.diagrams.proofs.Mixing.{More}
 

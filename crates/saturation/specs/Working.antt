@@ -5,7 +5,7 @@
 --   Changes         a round changes the set of some conclusion
 --   Made            a round is made: each round before it changed some set
 --   Working         a working set of the question (a word of our own)
-use Rattle.std.specs.Prelude.{◌≡◌, ℕ, suc, ◌^◌, ◌<◌, Bool, true, false, ◌&&◌, ◌||◌, length, Some, ◌==◌, slice_index}
+use Rattle.std.specs.Prelude.{◌≡◌, ℕ, suc, ◌^◌, ◌<◌, true, ◌&&◌, ◌||◌, length, Some, ◌==◌, slice_index}
 use Rattle.theory.specs.declared.Conclusion.{Conclusion}
 use Rattle.theory.specs.declared.Rule.{Rule}
 use Rattle.theory.specs.Theory.{Meaning, conclusion, premised}

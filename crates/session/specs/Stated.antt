@@ -4,7 +4,7 @@
 --   is_zero             a constant is zero
 --   terms_stated        over so many terms: = and ≠ only, no constant, then what the theory says
 --   differences_stated  over so many variables: ≤ and < only, then what the theory says
-use Rattle.std.specs.Prelude.{ℕ, Bool, true, false, cond, ℤ, pos, negsuc, Ok, Err, Result, ◌==◌}
+use Rattle.std.specs.Prelude.{ℕ, Bool, false, cond, ℤ, pos, negsuc, Ok, Err, Result, ◌==◌}
 use Rattle.theory.specs.declared.faults.FactFault.{FactFault}
 use Rattle.terms.specs.declared.equal.Relation.TheVariants.{Equal as same, Different as other}
 use Rattle.terms.specs.Facts.{made_fact}

@@ -4,7 +4,7 @@
 --   room      how many terms a table over these rows has place for
 --   Added     what was answered and left behind, by the refusal: refused, found, appended, or no place left
 --   Adds      the same, by the term
-use Rattle.std.specs.Prelude.{◌≡◌, ℕ, ◌+◌, ◌<◌, ◌≤◌, min, Bool, cond, not, ◌&&◌, ◌||◌, ◌⊎◌, List, length, Some, None, Ok, Err, Option, Result, ◌==◌, nat_le, nat_lt, slice_index_or, slice_set}
+use Rattle.std.specs.Prelude.{◌≡◌, ℕ, ◌+◌, ◌<◌, ◌≤◌, min, cond, not, ◌&&◌, ◌||◌, ◌⊎◌, List, length, Some, None, Ok, Err, Option, Result, ◌==◌, nat_le, nat_lt, slice_index_or, slice_set}
 use Rattle.equality.specs.declared.Term.{Term}
 use Rattle.register.specs.Rows.{Absent}
 use Rattle.terms.specs.declared.faults.TermFault.{TermFault}

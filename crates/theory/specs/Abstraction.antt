@@ -4,7 +4,7 @@
 --   with_opposites  each predicate at an even position, its opposite behind it
 --   FullCase        exactly one of each pair is chosen
 --   Implies         every model of the full case makes some goal true
-use Rattle.std.specs.Prelude.{◌≡◌, ℕ, ◌+◌, ◌*◌, ◌<◌, Bool, true, not, List, [], ◌∷◌, length, ℤ, Some, None, Option, slice_index}
+use Rattle.std.specs.Prelude.{◌≡◌, ℕ, ◌+◌, ◌*◌, ◌<◌, true, not, List, [], ◌∷◌, length, ℤ, Some, None, Option, slice_index}
 use Rattle.theory.specs.Theory.{Meaning}
 use Rattle.theory.specs.Rounds.{Question, bit}
 

@@ -15,7 +15,7 @@
 --   Gains        a round adds something
 --   Gaining      how many rounds of a choice gain
 --   RoundCount   the most gaining rounds that one of the question's choices has
-use Rattle.std.specs.Prelude.{◌≡◌, ℕ, zero, suc, ◌+◌, ◌*◌, ◌/◌, ◌%◌, ◌^◌, ◌<◌, ◌≤◌, Bool, true, false, cond, ◌&&◌, ◌||◌, List, [], ◌∷◌, length, ℤ, Some, None, Option, ◌==◌, slice_index}
+use Rattle.std.specs.Prelude.{◌≡◌, ℕ, zero, suc, ◌+◌, ◌*◌, ◌/◌, ◌%◌, ◌^◌, ◌<◌, ◌≤◌, Bool, true, false, cond, ◌&&◌, ◌||◌, List, length, ℤ, Some, None, Option, ◌==◌, slice_index}
 use Rattle.theory.specs.declared.Conclusion.{Conclusion}
 use Rattle.theory.specs.declared.Conclusion.TheVariants.{Fact, Contradiction}
 use Rattle.theory.specs.declared.Rule.{Rule}

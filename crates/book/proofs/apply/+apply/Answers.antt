@@ -1,4 +1,4 @@
-use Rattle.std.proofs.Common.{◌≡◌, Ok, Err, refl, ◌∙◌}
+use Rattle.std.proofs.Common.{Ok, Err, refl, ◌∙◌}
 use Rattle.diagrams.specs.Making.{Adds}
 use Rattle.diagrams.specs.Books.{union_or_intersection}
 use Rattle.diagrams.proofs.MakingRows.{extends_same}

@@ -1,4 +1,3 @@
-use Rattle.std.proofs.Common.{arith}
 use Rattle.diagrams.proofs.Applied.{step}
 use Rattle.book.proofs.apply.split.Goals as goal
 

@@ -1,4 +1,4 @@
-use Rattle.std.proofs.Common.{◌≡◌, ◌+◌, ◌<◌, length, sym, refl, ap, ◌∙◌, subst, arith}
+use Rattle.std.proofs.Common.{◌≡◌, ◌+◌, sym, refl, ap, ◌∙◌, subst, arith}
 use Rattle.theory.specs.Theory.{Names, conclusion}
 use Rattle.saturation.specs.Stages.{slot}
 use Rattle.saturation.proofs.Placing.{slot_below, concluded_known, premises_full}

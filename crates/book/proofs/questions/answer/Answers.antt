@@ -1,8 +1,7 @@
-use Rattle.std.proofs.Common.{◌≡◌, ℕ, sym, refl, ◌∙◌, subst}
+use Rattle.std.proofs.Common.{sym, refl, ◌∙◌, subst}
 use mathlib.Core.Logic.Iff
 use Rattle.theory.specs.Abstraction.{ask}
 use Rattle.theory.specs.Means.{meaning}
-use Rattle.diagrams.specs.Diagram.{blank}
 use Rattle.diagrams.specs.Books.{KeptBook, RefusedFull, book_of}
 use Rattle.diagrams.proofs.Leaves.{keeps_made, kept_back, keeps_back}
 use Rattle.saturation.specs.Statements.{WorkingRow}

@@ -1,4 +1,4 @@
-use Rattle.std.proofs.Common.{◌≡◌, ◌≤◌, length, arith}
+use Rattle.std.proofs.Common.{◌≤◌, length, arith}
 use Rattle.theory.specs.Means.{meaning}
 use Rattle.book.proofs.Pairs.{all_paired}
 use Rattle.book.proofs.questions.with_opposites.Goals as goal

@@ -1,4 +1,4 @@
-use Rattle.std.proofs.Common.{◌+◌, ◌*◌, ◌<◌, length, get_or, refl, arith}
+use Rattle.std.proofs.Common.{◌+◌, ◌<◌, get_or, refl, arith}
 use Rattle.book.proofs.Carries.{later_work}
 use Rattle.book.proofs.Holds.{holding_set, rest_set}
 use Rattle.book.proofs.Settling.{beginning_more}

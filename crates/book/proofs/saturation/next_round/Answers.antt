@@ -1,4 +1,4 @@
-use Rattle.std.proofs.Common.{◌≡◌, ◌∙◌, subst, arith}
+use Rattle.std.proofs.Common.{◌∙◌, subst, arith}
 use Rattle.theory.specs.Means.{meaning}
 use Rattle.saturation.specs.Stages.{Settled}
 use Rattle.saturation.proofs.Turning.{round_settled}

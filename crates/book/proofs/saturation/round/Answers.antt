@@ -1,9 +1,9 @@
-use Rattle.std.proofs.Common.{◌≡◌, suc, ◌+◌, ◌<◌, sym, refl, ◌∙◌, subst, arith}
+use Rattle.std.proofs.Common.{◌≡◌, suc, ◌+◌, ◌<◌, sym, ◌∙◌, subst, arith}
 use Rattle.theory.specs.Means.{meaning}
 use Rattle.saturation.specs.Stages.{InRound, RoundSet}
 use Rattle.saturation.proofs.Saturating.{too_many_more}
 use Rattle.saturation.proofs.Placing.{round_begins, place_empty, round_set_more}
-use Rattle.book.proofs.Carries.{Carried, nothing_carried, carried_on}
+use Rattle.book.proofs.Carries.{nothing_carried, carried_on}
 use Rattle.book.proofs.Failing.{failed}
 use Rattle.book.proofs.saturation.round.Goals as goal
 

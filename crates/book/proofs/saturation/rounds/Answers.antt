@@ -1,10 +1,10 @@
-use Rattle.std.proofs.Common.{◌≡◌, suc, ◌+◌, ◌<◌, true, false, get_or, sym, refl, ◌∙◌, subst, arith}
+use Rattle.std.proofs.Common.{◌≡◌, suc, ◌+◌, get_or, sym, subst, arith}
 use Rattle.theory.specs.Rounds.{after}
 use Rattle.theory.specs.Means.{meaning}
 use Rattle.saturation.specs.Working.{Made}
 use Rattle.saturation.specs.Stages.{Turned, AfterRounds, QuietAt}
 use Rattle.saturation.proofs.Turning.{rounds_begin, round_full, one_round_more, rounds_quiet, few_made}
-use Rattle.book.proofs.Carries.{Carried, nothing_carried, carried_on}
+use Rattle.book.proofs.Carries.{nothing_carried, carried_on}
 use Rattle.book.proofs.Failing.{failed}
 use Rattle.book.proofs.saturation.rounds.Goals as goal
 

@@ -1,4 +1,4 @@
-use Rattle.std.proofs.Common.{◌≡◌, sym, ◌∙◌, subst, arith}
+use Rattle.std.proofs.Common.{◌∙◌, subst, arith}
 use Rattle.theory.specs.Rounds.{start}
 use Rattle.theory.specs.Abstraction.{ask}
 use Rattle.theory.specs.Means.{meaning}

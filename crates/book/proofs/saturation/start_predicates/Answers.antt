@@ -1,8 +1,8 @@
-use Rattle.std.proofs.Common.{◌≡◌, suc, ◌+◌, ◌<◌, length, refl, ◌∙◌, subst, arith}
+use Rattle.std.proofs.Common.{◌≡◌, suc, ◌+◌, length, refl, subst, arith}
 use Rattle.saturation.specs.Stages.{Started, StartSet}
 use Rattle.saturation.proofs.Saturating.{too_many_more}
 use Rattle.saturation.proofs.Starting.{start_begins, start_set_more}
-use Rattle.book.proofs.Carries.{Carried, nothing_carried, carried_on}
+use Rattle.book.proofs.Carries.{nothing_carried, carried_on}
 use Rattle.book.proofs.Failing.{failed}
 use Rattle.book.proofs.saturation.start_predicates.Goals as goal
 

@@ -1,4 +1,4 @@
-use Rattle.std.proofs.Common.{◌≡◌, Err, sym, refl, ◌∙◌, subst, arith}
+use Rattle.std.proofs.Common.{sym, refl, ◌∙◌, subst, arith}
 use Rattle.diagrams.specs.Diagram.{RowOf}
 use Rattle.diagrams.specs.Books.{KeptBook, RefusedFull, book_of, union_or_intersection}
 use Rattle.diagrams.proofs.Leaves.{made_grows, kept_back, keeps_back}

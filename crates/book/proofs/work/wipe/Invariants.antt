@@ -1,4 +1,3 @@
-use Rattle.std.proofs.Common.{◌≡◌, ℕ, ◌<◌, ◌≤◌, get_or}
 use Rattle.book.specs.Work.{ZeroBelow, SameFrom}
 use Rattle.book.proofs.work.wipe.Given as goal
 

@@ -1,4 +1,4 @@
-use Rattle.std.proofs.Common.{◌≡◌, ℕ, ◌-◌, ◌*◌, ◌<◌, length, get_or, take, Some, None, Err, sym, refl, ap, ◌∙◌, subst, arith}
+use Rattle.std.proofs.Common.{◌≡◌, ◌-◌, ◌*◌, length, take, Some, None, Err, sym, refl, ap, ◌∙◌, subst, arith}
 use Rattle.theory.specs.Rounds.{Proper}
 use Rattle.theory.specs.Abstraction.{ask, with_opposites}
 use Rattle.theory.specs.Means.{meaning}

@@ -1,4 +1,4 @@
-use Rattle.std.proofs.Common.{◌≡◌, ap, ◌∙◌}
+use Rattle.std.proofs.Common.{ap, ◌∙◌}
 use Rattle.records.specs.Lines.{put_into}
 use Rattle.records.proofs.Texts.{line_push}
 use Rattle.records.proofs.line.Line.push.Goals as goal
