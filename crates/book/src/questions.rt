@@ -13,7 +13,7 @@ use crate::book::Book;
 use crate::calls::give_back;
 use crate::checks::first_fault;
 use crate::faults::QuestionFault;
-use crate::saturation::within;
+use crate::fixpoint::within;
 use diagrams::{NoRoom, Row};
 use register::Register;
 use theory::Theory;

@@ -1,7 +1,7 @@
 use Rattle.std.proofs.Common.{ℕ, arith}
 use lib.ListN.{length-replicate}
 use Rattle.book.proofs.Recalling.{ready_at_first}
-use Rattle.book.proofs.saturation.within.Goals as goal
+use Rattle.book.proofs.fixpoint.within.Goals as goal
 
 pub saturate-requires : goal.saturate-requires
 saturate-requires g c =

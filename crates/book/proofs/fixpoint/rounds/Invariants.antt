@@ -2,7 +2,7 @@ use Rattle.theory.specs.Means.{meaning}
 use Rattle.theory.specs.Rounds.{Question, start}
 use Rattle.saturation.specs.Stages.{BothHalves, AfterRounds}
 use Rattle.book.proofs.Carries.{Carried}
-use Rattle.book.proofs.saturation.rounds.Given as goal
+use Rattle.book.proofs.fixpoint.rounds.Given as goal
 
 abbrev pub invariant-loop-gaining : goal.invariant-loop-gaining
 invariant-loop-gaining g l = Carried l.initial.register l.register l.initial.index l.index l.initial.tables l.tables l.initial.work l.work

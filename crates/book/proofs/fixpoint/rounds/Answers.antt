@@ -6,7 +6,7 @@ use Rattle.saturation.specs.Stages.{Turned, AfterRounds, QuietAt}
 use Rattle.saturation.proofs.Turning.{rounds_begin, round_full, one_round_more, rounds_quiet, few_made}
 use Rattle.book.proofs.Carries.{nothing_carried, carried_on}
 use Rattle.book.proofs.Failing.{failed}
-use Rattle.book.proofs.saturation.rounds.Goals as goal
+use Rattle.book.proofs.fixpoint.rounds.Goals as goal
 
 pub loop-gaining-init : goal.loop-gaining-init
 loop-gaining-init g c = (

@@ -4,7 +4,7 @@ use Rattle.saturation.proofs.Saturating.{too_many_more}
 use Rattle.saturation.proofs.Starting.{start_begins, start_set_more}
 use Rattle.book.proofs.Carries.{nothing_carried, carried_on}
 use Rattle.book.proofs.Failing.{failed}
-use Rattle.book.proofs.saturation.start_predicates.Goals as goal
+use Rattle.book.proofs.fixpoint.start_predicates.Goals as goal
 
 pub loop-position-init : goal.loop-position-init
 loop-position-init c =

@@ -2,7 +2,7 @@ use Rattle.std.proofs.Common.{◌+◌, ◌<◌, get_or, refl, arith}
 use Rattle.book.proofs.Carries.{later_work}
 use Rattle.book.proofs.Holds.{holding_set, rest_set}
 use Rattle.book.proofs.Settling.{beginning_more}
-use Rattle.book.proofs.saturation.begin.Goals as goal
+use Rattle.book.proofs.fixpoint.begin.Goals as goal
 
 pub loop-slot-preserved : goal.loop-slot-preserved
 loop-slot-preserved c =

@@ -1,7 +1,7 @@
 use Rattle.std.proofs.Common.{◌≡◌, ℕ, ◌+◌, ◌<◌, length, get_or}
 use Rattle.saturation.specs.Stages.{Started}
 use Rattle.book.proofs.Carries.{Carried}
-use Rattle.book.proofs.saturation.start_predicates.Given as goal
+use Rattle.book.proofs.fixpoint.start_predicates.Given as goal
 
 abbrev pub invariant-loop-position : goal.invariant-loop-position
 invariant-loop-position l = Carried l.initial.register l.register l.initial.index l.index l.initial.tables l.tables l.initial.work l.work

@@ -5,7 +5,7 @@ use Rattle.saturation.proofs.Saturating.{too_many_more}
 use Rattle.saturation.proofs.Placing.{round_begins, place_empty, round_set_more}
 use Rattle.book.proofs.Carries.{nothing_carried, carried_on}
 use Rattle.book.proofs.Failing.{failed}
-use Rattle.book.proofs.saturation.round.Goals as goal
+use Rattle.book.proofs.fixpoint.round.Goals as goal
 
 pub loop-place-init : goal.loop-place-init
 loop-place-init g c =

@@ -1,7 +1,7 @@
 use Rattle.theory.specs.Means.{meaning}
 use Rattle.saturation.specs.Stages.{Family, BothHalves, InRound}
 use Rattle.book.proofs.Carries.{Carried}
-use Rattle.book.proofs.saturation.round.Given as goal
+use Rattle.book.proofs.fixpoint.round.Given as goal
 
 abbrev pub invariant-loop-place : goal.invariant-loop-place
 invariant-loop-place g l = Carried l.initial.register l.register l.initial.index l.index l.initial.tables l.tables l.initial.work l.work

@@ -2,8 +2,8 @@ use Rattle.std.proofs.Common.{◌+◌, ◌<◌, length, get_or, set, sym, refl, 
 use Rattle.book.proofs.Carries.{later_work}
 use Rattle.book.proofs.Holds.{holding_set, rest_set}
 use Rattle.book.proofs.Settling.{Settling, settling_changed, settling_compared}
-use Rattle.book.proofs.saturation.settle.Goals as goal
-use Rattle.book.proofs.saturation.settle.Goals.{then-changed, else-changed}
+use Rattle.book.proofs.fixpoint.settle.Goals as goal
+use Rattle.book.proofs.fixpoint.settle.Goals.{then-changed, else-changed}
 
 pub loop-slot-preserved : goal.loop-slot-preserved
 loop-slot-preserved c =

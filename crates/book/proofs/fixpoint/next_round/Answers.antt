@@ -3,7 +3,7 @@ use Rattle.theory.specs.Means.{meaning}
 use Rattle.saturation.specs.Stages.{Settled}
 use Rattle.saturation.proofs.Turning.{round_settled}
 use Rattle.book.proofs.Failing.{failed}
-use Rattle.book.proofs.saturation.next_round.Goals as goal
+use Rattle.book.proofs.fixpoint.next_round.Goals as goal
 
 pub returns-in_err-round : goal.returns-in_err-round
 returns-in_err-round g c =

@@ -8,7 +8,7 @@ use Rattle.saturation.proofs.Turning.{start_full}
 use Rattle.diagrams.proofs.Applied.{extends_more}
 use Rattle.book.proofs.Answering.{saturation_ends}
 use Rattle.book.proofs.Failing.{failed}
-use Rattle.book.proofs.saturation.saturate.Goals as goal
+use Rattle.book.proofs.fixpoint.saturate.Goals as goal
 
 pub rounds-requires : goal.rounds-requires
 rounds-requires g c =

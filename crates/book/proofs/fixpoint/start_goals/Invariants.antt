@@ -4,7 +4,7 @@ use Rattle.diagrams.specs.declared.Row.{Row}
 use Rattle.saturation.specs.Stages.{Family, Half, first_half, opposed}
 use Rattle.book.specs.Questions.{Holding}
 use Rattle.book.proofs.Carries.{SameWork}
-use Rattle.book.proofs.saturation.start_goals.Given as goal
+use Rattle.book.proofs.fixpoint.start_goals.Given as goal
 
 abbrev pub invariant-loop-goal : goal.invariant-loop-goal
 invariant-loop-goal g l = SameWork l.initial.work l.work × ((count : ℕ) → Holding l.initial.work.numbers.now l.initial.work.used count → Holding l.work.numbers.now l.work.used count)

@@ -5,7 +5,7 @@ use Rattle.saturation.proofs.Starting.{goals_begin, goal_without, goal_opposed}
 use Rattle.book.proofs.Carries.{same_work, later_work}
 use Rattle.book.proofs.Holds.{holding_set, rest_set}
 use Rattle.book.proofs.Opposites.{opposite_below}
-use Rattle.book.proofs.saturation.start_goals.Goals as goal
+use Rattle.book.proofs.fixpoint.start_goals.Goals as goal
 
 pub loop-goal-init : goal.loop-goal-init
 loop-goal-init g c = (same_work c.args.work.now, λ count h. h, λ S rows count h. goals_begin (meaning g.T.Theory c.args.theory.now) c.args.goals.now S rows count c.args.work.now.numbers.now h)
