@@ -1,6 +1,7 @@
 -- What a rule's premises have together, and what a slot has after it has gathered.
 use Rattle.std.proofs.Common.{◌≡◌, ℕ, suc, ◌+◌, ◌<◌, Bool, true, false, ◌&&◌, List, length, get_or, IfOk, Some, None, Ok, Err, Option, Result, sym, refl, ap, ◌∙◌, subst, ap₂, arith, MatchResult}
 use mathlib.Core.Path.{fun_ext}
+use Rattle.theory.specs.declared.Conclusion.{Conclusion}
 use Rattle.theory.specs.declared.Conclusion.TheVariants.{Fact}
 use Rattle.theory.specs.declared.Rule.{Rule}
 use Rattle.theory.specs.declared.Rule.TheVariants.{Always, From, Both}
@@ -46,12 +47,25 @@ module _ (rows : List Row) (count : ℕ) (sound : Sound rows count) (numbers : L
       (fun_ext (λ c. ap (has_asked (facts_of (S c))) (sym e) ∙ premised_asked (facts_of (S c)) rule))
       (plain rows count sound (λ c. true) 1 (omega arith) (member_1 rows))
 
-  pub both_meet : (a b x y : ℕ) → asked_for rule ≡ Some (a, b) → x ≡ get_or numbers a 0 → y ≡ get_or numbers b 0 → (rows' : List Row) (count' : ℕ) (o : Result ℕ NoRoom)
+  pub asked_meet : (a b x y : ℕ) → asked_for rule ≡ Some (a, b) → x ≡ get_or numbers a 0 → y ≡ get_or numbers b 0 → (rows' : List Row) (count' : ℕ) (o : Result ℕ NoRoom)
       → Applies rows count rows' count' (union_or_intersection Intersection rows x y) o → Meets rows count numbers rows' count' rule o
-  both_meet a b x y e is_x is_y rows' count' o t facts S names h =
+  asked_meet a b x y e is_x is_y rows' count' o t facts S names h =
       let n = asked_named facts rule (a, b) names e in
       subst (λ s. Applies rows count rows' count' s o)
       (fun_ext (λ c. ap₂ ◌&&◌ (ap (λ z. member rows z c) is_x ∙ (h (Fact a) n.0).reads c) (ap (λ z. member rows z c) is_y ∙ (h (Fact b) n.1).reads c) ∙ ap (has_asked (facts_of (S c))) (sym e) ∙ premised_asked (facts_of (S c)) rule)) t
+
+  -- the same by the three kinds of rule
+  pub always_meets : (x : Conclusion) → rule ≡ Always x → Meets rows count numbers rows count rule (Ok 1)
+  always_meets x e = subst (λ z. Meets rows count numbers rows count z (Ok 1)) (sym e) (λ facts S names h. plain rows count sound (λ c. true) 1 (omega arith) (member_1 rows))
+
+  pub from_meets : (a : ℕ) (x : Conclusion) → rule ≡ From a x → Meets rows count numbers rows count rule (Ok (get_or numbers a 0))
+  from_meets a x e = subst (λ z. Meets rows count numbers rows count z (Ok (get_or numbers a 0))) (sym e)
+      (λ facts S names h. let s = h (Fact a) names.0 in plain rows count sound (λ c. S c (Fact a)) (get_or numbers a 0) s.held s.reads)
+
+  pub both_meet : (a b : ℕ) (x : Conclusion) → rule ≡ Both a b x → (rows' : List Row) (count' : ℕ) (o : Result ℕ NoRoom)
+      → Applies rows count rows' count' (union_or_intersection Intersection rows (get_or numbers a 0) (get_or numbers b 0)) o → Meets rows count numbers rows' count' rule o
+  both_meet a b x e rows' count' o t = subst (λ z. Meets rows count numbers rows' count' z o) (sym e)
+      (λ facts S names h. subst (λ s. Applies rows count rows' count' s o) (fun_ext (λ c. ap₂ ◌&&◌ ((h (Fact a) names.0).reads c) ((h (Fact b) names.1).reads c))) t)
 
 -- the number of a set that was made is held
 pub made_held : (rows : List Row) (count : ℕ) (rows' : List Row) (count' : ℕ) (s : Choices) (o : Result ℕ NoRoom) → Applies rows count rows' count' s o → IfOk o (λ n. n < count' + 2)

@@ -2,7 +2,7 @@ use Rattle.std.proofs.Common.{sym, refl, ◌∙◌, arith}
 use Rattle.diagrams.specs.declared.Operation.TheVariants.{Intersection}
 use Rattle.diagrams.specs.Books.{union_or_intersection}
 use Rattle.diagrams.proofs.MakingRows.{extends_same}
-use Rattle.book.proofs.Meeting.{asked_named, none_meet, both_meet, made_held}
+use Rattle.book.proofs.Meeting.{asked_named, none_meet, asked_meet, made_held}
 use Rattle.book.proofs.gather.premises.Goals as goal
 
 pub returns-in_default : goal.returns-in_default
@@ -51,6 +51,6 @@ returns c =
       extends = e.extends;
       ready = e.ready;
       held = made_held t.rows.now t.count u.rows.now u.count s c.apply.result e.applied;
-      meets = both_meet t.rows.now t.count c.requires.ready.kept.sound c.args.work.now.numbers.now c.args.rule c.in-Some.a c.in-Some.b c.standing-left.result c.standing-right.result
+      meets = asked_meet t.rows.now t.count c.requires.ready.kept.sound c.args.work.now.numbers.now c.args.rule c.in-Some.a c.in-Some.b c.standing-left.result c.standing-right.result
           (sym c.asked_for.ensures ∙ c.in-Some.is) c.standing-left.ensures c.standing-right.ensures u.rows.now u.count c.apply.result e.applied;
     }
