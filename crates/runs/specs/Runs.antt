@@ -1,5 +1,6 @@
 -- What each call on a book leads to, and which numbers a book has given for which choices after any list of calls.
--- These are definitions for what is still to be proved of whole runs; no contract names them yet.
+-- An earlier wording, with the number of a refusal as an outcome; no contract names these definitions. Those that are proved
+-- stand in specs/Runs.antt of the crate book and in Statements.antt.
 --
 --   Call          a question, an abstraction, a join of two numbers, or a reading
 --   Outcome       a number and a round count, a number, yes or no, or the number of a refusal
