@@ -3,7 +3,7 @@
 ghost use Rattle.diagrams.specs.Diagram.{row_hash};
 
 // A row of a decision diagram: at a position, the numbers of the set's halves without and with it.
-#[derive(Clone, Copy)]
+#[derive(Clone, Copy, PartialEq, Eq, Default)]
 pub struct Row {
     pub position: u8,
     pub without: u16,
@@ -11,22 +11,18 @@ pub struct Row {
 }
 
 // How two sets are put together.
-#[derive(Clone, Copy)]
+#[derive(Clone, Copy, PartialEq, Eq)]
 pub enum Operation {
     Union,
     Intersection,
 }
 
 // The rows wanted outnumber those there are.
-#[derive(Clone, Copy)]
+#[derive(Clone, Copy, PartialEq, Eq)]
 pub struct NoRoom;
 
 impl register::Row for Row {
     ghost hash = { row_hash };
-
-    fn matches(self, other: Row) -> bool {
-        self.position == other.position && self.without == other.without && self.with == other.with
-    }
 
     // Neighbouring numbers are common: the factors keep them in different buckets.
     fn hash(self) -> u32 {

@@ -3,7 +3,7 @@
 use register::Row;
 
 // A term: a symbol, how many arguments it has, and the numbers of these, of which an unused one is 0.
-#[derive(Clone, Copy)]
+#[derive(Clone, Copy, PartialEq, Eq, Default)]
 pub struct Term {
     pub symbol: u16,
     pub arity: u8,
@@ -14,13 +14,6 @@ pub struct Term {
 // Terms as rows of a register.
 impl Row for Term {
     ghost hash = { λ t. t.symbol };
-
-    fn matches(self, other: Self) -> bool {
-        self.symbol == other.symbol
-            && self.arity == other.arity
-            && self.left == other.left
-            && self.right == other.right
-    }
 
     fn hash(self) -> u32 {
         self.symbol as u32

@@ -4,16 +4,15 @@ ghost use Rattle.std.specs.Prelude.{◌≡◌, ℕ, ◌+◌, ◌<◌, ◌≤◌,
 ghost use Rattle.register.specs.Rows.{Finds, Puts, Cleared};
 ghost use Rattle.register.specs.Chains.{bucket as bucketOf, Indexed, Put};
 
-// A kind of row: it tells whether it is the same as another, and gives a hash for the index.
-pub trait Row: Copy {
+// A kind of row: rows can be compared, and each has a hash for the index.
+pub trait Row: Copy + Eq {
     ghost hash: { Self → ℕ };
-
-    fn matches(self, other: Self) -> bool
-        ensures yes { T result → self ≡ other }
-        ensures not { self ≡ other → T result };
 
     fn hash(self) -> u32
         ensures { result ≡ hash self };
+
+    // rows that `==` calls equal are the same
+    ghost same: { (x y : Self) → IsTrue (Self.eq x y) → x ≡ y };
 }
 
 // The chained index of a register's rows, in memory of the caller.
@@ -28,6 +27,7 @@ pub struct Index<'a> {
 pub struct Register<'a, R> {
     pub rows: &'a mut [R],
     pub count: u16,
+    ghost within: { count ≤ length rows.now },
 }
 
 // The bucket of a hash. A mask, since a division would cost more than the rest of a search.
@@ -55,22 +55,18 @@ fn is_full(count: u16, most: u16, rows: usize, next: usize) -> bool
 
 // The place of the row in use that is the same as the one given. It follows the chain of the row's bucket, so through an
 // index of these rows the end of the chain tells that the row is absent.
-fn find<R: Row>(rows: &[R], count: u16, heads: &[u16], next: &[u16], row: R) -> Option<u16>
-    requires rows { count ≤ length rows.now }
-    requires next { count ≤ length next.now }
-    ensures { Indexed R.Row.hash rows.now count heads.now next.now → Finds rows.now count row result }
+fn find<R: Row>(register: &Register<'_, R>, index: &Index<'_>, row: R) -> Option<u16>
+    requires { register.now.count ≤ length index.now.next.now }
+    ensures { Indexed R.Row.hash register.now.rows.now register.now.count index.now.heads.now index.now.next.now → Finds register.now.rows.now register.now.count row result }
 {
-    let b = bucket(heads.len(), row.hash());
-    if b >= heads.len() {
-        return None;
-    }
-    let mut link = downwards(heads[b], count);
+    let b = bucket(index.heads.len(), row.hash());
+    let mut link = downwards(*index.heads.get(b)?, register.count);
     while link > 0 {
         let at = link - 1;
-        if rows[at as usize].matches(row) {
+        if register.rows[at as usize] == row {
             return Some(at);
         }
-        link = downwards(next[at as usize], at);
+        link = downwards(index.next[at as usize], at);
     }
     None
 }
@@ -106,41 +102,22 @@ impl Index<'_> {
         ensures heads { length self.new.heads.now ≡ length self.old.heads.now }
         ensures next { self.new.next.now ≡ self.old.next.now }
     {
-        reset(self.heads);
+        self.heads.fill(0);
     }
 }
 
-impl<R: Row> Register<'_, R> {
-    fn find(&self, index: &Index<'_>, row: R) -> Option<u16>
-        requires rows { self.now.count ≤ length self.now.rows.now }
-        requires next { self.now.count ≤ length index.now.next.now }
-        ensures { Indexed R.Row.hash self.now.rows.now self.now.count index.now.heads.now index.now.next.now → Finds self.now.rows.now self.now.count row result }
-    {
-        find(self.rows, self.count, index.heads, index.next, row)
-    }
-}
-
-// Links the rows in use one after another into an index without rows.
-fn link_all<R: Row>(rows: &[R], count: u16, index: &mut Index<'_>)
-    requires rows { count ≤ length rows.now }
-    requires next { count ≤ length index.old.next.now }
+// Links rows one after another into an index without rows.
+fn link_all<R: Row>(rows: &[R], index: &mut Index<'_>)
+    requires few { length rows.now ≤ 65535 }
+    requires next { length rows.now ≤ length index.old.next.now }
     requires some { 0 < length index.old.heads.now }
     requires empty { (k : ℕ) → slice_index index.old.heads.now k ≡ 0 }
     ensures names { (index.new.heads.ghost_name ≡ index.old.heads.ghost_name) × (index.new.next.ghost_name ≡ index.old.next.ghost_name) }
     ensures long { (length index.new.heads.now ≡ length index.old.heads.now) × (length index.new.next.now ≡ length index.old.next.now) }
-    ensures indexed { Indexed R.Row.hash rows.now count index.new.heads.now index.new.next.now }
+    ensures indexed { Indexed R.Row.hash rows.now (length rows.now) index.new.heads.now index.new.next.now }
 {
-    for at in 0..count {
-        index.link(rows[at as usize].hash(), at);
-    }
-}
-
-// Writes 0 into each number.
-fn reset(heads: &mut [u16])
-    ensures { (k : ℕ) → slice_index heads.new k ≡ 0 }
-{
-    for head in heads.iter_mut() {
-        *head = 0;
+    for (at, row) in rows.iter().enumerate() {
+        index.link(row.hash(), at as u16);
     }
 }
 
@@ -186,15 +163,11 @@ impl<'a, R: Row> Register<'a, R> {
         ensures indexed { self.now.count ≤ length self.now.rows.now → self.now.count ≤ length index.old.next.now → 0 < length index.old.heads.now → Indexed R.Row.hash self.now.rows.now self.now.count index.new.heads.now index.new.next.now }
         ensures long { (length index.new.heads.now ≡ length index.old.heads.now) × (length index.new.next.now ≡ length index.old.next.now) }
     {
-        let count = self.count;
-        if count as usize > self.rows.len()
-            || count as usize > index.next.len()
-            || index.heads.len() == 0
-        {
+        if self.count as usize > index.next.len() || index.heads.is_empty() {
             return;
         }
         index.reset();
-        link_all(self.rows, count, index);
+        link_all(&self.rows[..self.count as usize], index);
     }
 
     // The place of the row: where it stands already, or behind the rows in use; none where the register, of which at most
@@ -205,14 +178,11 @@ impl<'a, R: Row> Register<'a, R> {
         ensures put { Indexed R.Row.hash self.old.rows.now self.old.count index.old.heads.now index.old.next.now → Put R.Row.hash most self.old.rows.now self.old.count index.old.heads.now index.old.next.now row self.new.rows.now self.new.count index.new.heads.now index.new.next.now result }
     {
         let at = self.count;
-        if at as usize > self.rows.len()
-            || at as usize > index.next.len()
-            || index.heads.len() == 0
-        {
+        if at as usize > index.next.len() || index.heads.is_empty() {
             return None;
         }
-        if let Some(i) = self.find(index, row) {
-            return Some(i);
+        if let Some(earlier) = find(self, index, row) {
+            return Some(earlier);
         }
         if is_full(at, most, self.rows.len(), index.next.len()) {
             return None;

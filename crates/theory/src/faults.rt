@@ -1,38 +1,40 @@
-ghost use Rattle.std.specs.Prelude.{◌≡◌};
+ghost use Rattle.std.specs.Prelude.{◌≡◌, ℕ};
 ghost use Rattle.theory.specs.Faults.{theory_fault_number, fact_fault_number};
 
+// Why a call was refused. Tools know each reason by its number.
+pub trait Refusal: Copy {
+    ghost number: { Self → ℕ };
+
+    fn number(self) -> u8
+        ensures { result ≡ number self };
+}
+
 // Why a theory was not made.
-#[derive(Clone, Copy)]
+#[derive(Clone, Copy, PartialEq, Eq)]
 pub enum TheoryFault {
-    TooManyVariables,
+    TooManyVariables = 5,
 }
 
 // Why a fact was not made.
-#[derive(Clone, Copy)]
+#[derive(Clone, Copy, PartialEq, Eq)]
 pub enum FactFault {
-    NoTerm,
-    NoVariable,
-    ConstantOutOfRange,
+    NoTerm = 6,
+    NoVariable = 7,
+    ConstantOutOfRange = 8,
 }
 
-impl TheoryFault {
-    pub fn number(&self) -> u8
-        ensures { result ≡ theory_fault_number self.now }
-    {
-        match self {
-            TheoryFault::TooManyVariables => 5,
-        }
+impl Refusal for TheoryFault {
+    ghost number = { theory_fault_number };
+
+    fn number(self) -> u8 {
+        self as u8
     }
 }
 
-impl FactFault {
-    pub fn number(&self) -> u8
-        ensures { result ≡ fact_fault_number self.now }
-    {
-        match self {
-            FactFault::NoTerm => 6,
-            FactFault::NoVariable => 7,
-            FactFault::ConstantOutOfRange => 8,
-        }
+impl Refusal for FactFault {
+    ghost number = { fact_fault_number };
+
+    fn number(self) -> u8 {
+        self as u8
     }
 }

@@ -6,7 +6,7 @@ ghost use Rattle.theory.specs.Theory.{Lawful};
 
 mod faults;
 
-pub use faults::{FactFault, TheoryFault};
+pub use faults::{FactFault, Refusal, TheoryFault};
 
 // What a rule gives: a fact, by its number, or the contradiction.
 #[derive(Clone, Copy)]
