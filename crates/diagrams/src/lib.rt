@@ -1,5 +1,6 @@
 #![tactic(auto)]
 
+ghost use Rattle.std.proofs.Common.{rules};
 ghost use Rattle.diagrams.specs.Diagram.{row_hash};
 
 // A row of a decision diagram: at a position, the numbers of the set's halves without and with it.
@@ -23,6 +24,8 @@ pub struct NoRoom;
 
 impl register::Row for Row {
     ghost hash = { row_hash };
+
+    ghost same = { Prim.search rules };
 
     // Neighbouring numbers are common: the factors keep them in different buckets.
     fn hash(self) -> u32 {

@@ -1,5 +1,7 @@
 #![tactic(auto)]
 
+ghost use Rattle.std.proofs.Common.{rules};
+
 use register::Row;
 
 // A term: a symbol, how many arguments it has, and the numbers of these, of which an unused one is 0.
@@ -14,6 +16,8 @@ pub struct Term {
 // Terms as rows of a register.
 impl Row for Term {
     ghost hash = { λ t. t.symbol };
+
+    ghost same = { Prim.search rules };
 
     fn hash(self) -> u32 {
         self.symbol as u32

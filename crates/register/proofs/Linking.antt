@@ -1,5 +1,6 @@
 -- Linking the row behind those that an index covers gives an index that covers it too.
-use Rattle.std.proofs.Common.{◌≡◌, ℕ, ◌+◌, ◌-◌, ◌<◌, List, length, get_or, set, sym, ap, ◌∙◌, subst, ⊎_elim, arith, length-set, get_or-set_other, get_or-set_same}
+use Rattle.std.proofs.Common.{◌≡◌, ℕ, ◌+◌, ◌-◌, ◌<◌, ◌≤◌, List, length, take, get_or, set, sym, ap, ◌∙◌, subst, ⊎_elim, arith, length-set, get_or-set_other, get_or-set_same}
+use Rattle.std.proofs.lemmas.List.{get_or-take, length-take-le}
 use lib.Bits.{and_le_r}
 use Rattle.std.proofs.lemmas.Bool.{cases_eq, cases_order}
 use Rattle.register.specs.Chains.{bucket, Links, Indexed}
@@ -15,10 +16,10 @@ links_same hash buckets rows rows' place b link same l = record {
 }
 
 pub indexed_same : {R : Type 0} (hash : R → ℕ) (rows rows' : List R) (count : ℕ) (heads next : List ℕ)
-    → length rows' ≡ length rows → ((r : ℕ) (d : R) → r < count → get_or rows' r d ≡ get_or rows r d)
+    → count ≤ length rows' → ((r : ℕ) (d : R) → r < count → get_or rows' r d ≡ get_or rows r d)
     → Indexed hash rows count heads next → Indexed hash rows' count heads next
-indexed_same hash rows rows' count heads next long same x = record {
-  within = omega (arith, long, x.within);
+indexed_same hash rows rows' count heads next within same x = record {
+  within = within;
   some = x.some;
   room = x.room;
   head = λ b lt. links_same hash (length heads) rows rows' count b _ same (x.head b lt);
@@ -100,3 +101,10 @@ pub linked_row : {R : Type 0} (hash : R → ℕ) (rows : List R) (count : ℕ) (
     → Indexed hash rows count heads next → Indexed hash rows (count + 1) heads' next'
 linked_row hash rows count heads next row h heads' next' lt room is eh ehs en x =
     rw (ehs, en, eh) (index_more hash rows count heads next row lt room is x (bucket_below (length heads) (hash row) x.some))
+
+-- an index of the rows in use alone is one of all rows
+pub indexed_all : {R : Type 0} (hash : R → ℕ) (rows : List R) (count : ℕ) (heads next : List ℕ) → count ≤ length rows
+    → Indexed hash (take count rows) (length (take count rows)) heads next → Indexed hash rows count heads next
+indexed_all hash rows count heads next within x =
+    indexed_same hash (take count rows) rows count heads next within (λ r d lt. sym (get_or-take count rows r d lt))
+        (subst (λ z. Indexed hash (take count rows) z heads next) (length-take-le count rows within) x)

@@ -21,7 +21,7 @@ module _ {R : Type 0} (hash : R → ℕ) (most : ℕ) (rows : List R) (count : �
     puts = inr (refl, omega (arith, few, lt, room), f x, er, refl);
     indexed = linked_row hash rows' count heads next row h heads' next' (omega (arith, lt, ap length er, length-set rows count row)) room
         (λ d. rw er (get_or-set_same rows count row d lt)) eh ehs en
-        (indexed_same hash rows rows' count heads next (rw er (length-set rows count row)) (λ r d l. let ne : r ≢ count = omega (arith, l) in rw er (get_or-set_other rows count r row d ne)) x);
+        (indexed_same hash rows rows' count heads next (omega (arith, lt, ap length er, length-set rows count row)) (λ r d l. let ne : r ≢ count = omega (arith, l) in rw er (get_or-set_other rows count r row d ne)) x);
     heads_long = rw ehs (length-set heads _ _);
     next_long = rw en (length-set next _ _);
   }

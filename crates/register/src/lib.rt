@@ -1,6 +1,6 @@
 #![tactic(auto)]
 
-ghost use Rattle.std.specs.Prelude.{◌≡◌, ℕ, ◌+◌, ◌<◌, ◌≤◌, min, T, length, slice_index, slice_set};
+ghost use Rattle.std.specs.Prelude.{◌≡◌, ℕ, ◌+◌, ◌<◌, ◌≤◌, ◌↔◌, min, IsTrue, length, slice_index, slice_set};
 ghost use Rattle.register.specs.Rows.{Finds, Puts, Cleared};
 ghost use Rattle.register.specs.Chains.{bucket as bucketOf, Indexed, Put};
 
@@ -45,14 +45,6 @@ fn downwards(link: u16, place: u16) -> u16
     link.min(place)
 }
 
-// Whether no row may be put behind those in use.
-fn is_full(count: u16, most: u16, rows: usize, next: usize) -> bool
-    ensures yes { T result → min most (min rows next) ≤ count }
-    ensures not { (T result → ⊥) → (count < most) × (count < rows) × (count < next) }
-{
-    count >= most || count as usize >= rows || count as usize >= next
-}
-
 // The place of the row in use that is the same as the one given. It follows the chain of the row's bucket, so through an
 // index of these rows the end of the chain tells that the row is absent.
 fn find<R: Row>(register: &Register<'_, R>, index: &Index<'_>, row: R) -> Option<u16>
@@ -60,10 +52,14 @@ fn find<R: Row>(register: &Register<'_, R>, index: &Index<'_>, row: R) -> Option
     ensures { Indexed R.Row.hash register.now.rows.now register.now.count index.now.heads.now index.now.next.now → Finds register.now.rows.now register.now.count row result }
 {
     let b = bucket(index.heads.len(), row.hash());
-    let mut link = downwards(*index.heads.get(b)?, register.count);
+    if b >= index.heads.len() {
+        return None;
+    }
+    let mut link = downwards(index.heads[b], register.count);
     while link > 0 {
         let at = link - 1;
-        if register.rows[at as usize] == row {
+        let earlier = register.rows[at as usize];
+        if earlier == row {
             return Some(at);
         }
         link = downwards(index.next[at as usize], at);
@@ -80,6 +76,13 @@ fn append<R: Row>(rows: &mut [R], at: u16, row: R)
 }
 
 impl Index<'_> {
+    // Whether it has a chain to put a row into, and a link for each of so many rows.
+    fn covers(&self, count: u16) -> bool
+        ensures { IsTrue result ↔ ((0 < length self.now.heads.now) × (count ≤ length self.now.next.now)) }
+    {
+        !self.heads.is_empty() && count as usize <= self.next.len()
+    }
+
     // Puts the row at a place, of the given hash, in front of its chain.
     fn link(&mut self, hash: u32, at: u16)
         requires some { 0 < length self.old.heads.now }
@@ -133,6 +136,13 @@ fn clear<R: Row>(rows: &mut [R], from: u16, to: u16, blank: R)
 }
 
 impl<'a, R: Row> Register<'a, R> {
+    // How many rows may be in use, of which each has a place among the rows and in the index.
+    fn room(&self, index: &Index<'_>, most: u16) -> usize
+        ensures { result ≡ min most (min (length self.now.rows.now) (length index.now.next.now)) }
+    {
+        (most as usize).min(self.rows.len().min(index.next.len()))
+    }
+
     // An empty register over lent rows: the first `most` of them, or all if fewer, are made blank.
     pub fn open(rows: &'a mut [R], most: u16, blank: R) -> Self
         ensures held { result.rows.ghost_name ≡ rows.entry.ghost_name }
@@ -160,10 +170,10 @@ impl<'a, R: Row> Register<'a, R> {
     // Makes the index one of the rows in use, whatever it was before.
     pub fn link_rows(&self, index: &mut Index<'_>)
         ensures names { (index.new.heads.ghost_name ≡ index.old.heads.ghost_name) × (index.new.next.ghost_name ≡ index.old.next.ghost_name) }
-        ensures indexed { self.now.count ≤ length self.now.rows.now → self.now.count ≤ length index.old.next.now → 0 < length index.old.heads.now → Indexed R.Row.hash self.now.rows.now self.now.count index.new.heads.now index.new.next.now }
+        ensures indexed { self.now.count ≤ length index.old.next.now → 0 < length index.old.heads.now → Indexed R.Row.hash self.now.rows.now self.now.count index.new.heads.now index.new.next.now }
         ensures long { (length index.new.heads.now ≡ length index.old.heads.now) × (length index.new.next.now ≡ length index.old.next.now) }
     {
-        if self.count as usize > index.next.len() || index.heads.is_empty() {
+        if !index.covers(self.count) {
             return;
         }
         index.reset();
@@ -178,13 +188,13 @@ impl<'a, R: Row> Register<'a, R> {
         ensures put { Indexed R.Row.hash self.old.rows.now self.old.count index.old.heads.now index.old.next.now → Put R.Row.hash most self.old.rows.now self.old.count index.old.heads.now index.old.next.now row self.new.rows.now self.new.count index.new.heads.now index.new.next.now result }
     {
         let at = self.count;
-        if at as usize > index.next.len() || index.heads.is_empty() {
+        if !index.covers(at) {
             return None;
         }
         if let Some(earlier) = find(self, index, row) {
             return Some(earlier);
         }
-        if is_full(at, most, self.rows.len(), index.next.len()) {
+        if at as usize >= self.room(index, most) {
             return None;
         }
         append(self.rows, at, row);

@@ -5,7 +5,9 @@ use Rattle.register.proofs.find.Given as goal
 
 abbrev pub invariant-loop-link : goal.invariant-loop-link
 invariant-loop-link g l =
-    (l.link ≤ l.count) × (Indexed g.R.Row.hash l.rows l.count l.heads l.next → Passed g.R.Row.hash (length l.heads) l.rows l.count l.row l.link)
+    (l.link ≤ l.register.count)
+    × (Indexed g.R.Row.hash l.register.rows.now l.register.count l.index.heads.now l.index.next.now
+      → Passed g.R.Row.hash (length l.index.heads.now) l.register.rows.now l.register.count l.row l.link)
 
 abbrev pub decreases-loop-link : goal.decreases-loop-link
 decreases-loop-link g l = l.link
