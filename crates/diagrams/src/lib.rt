@@ -27,6 +27,8 @@ impl register::Row for Row {
 
     ghost same = { Prim.search rules };
 
+    ghost clones = { Prim.search rules };
+
     // Neighbouring numbers are common: the factors keep them in different buckets.
     fn hash(self) -> u32 {
         self.without as u32 * 3 + self.with as u32 * 613 + self.position as u32 * 1021

@@ -19,6 +19,8 @@ impl Row for Term {
 
     ghost same = { Prim.search rules };
 
+    ghost clones = { Prim.search rules };
+
     fn hash(self) -> u32 {
         self.symbol as u32
     }

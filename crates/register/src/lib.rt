@@ -13,6 +13,9 @@ pub trait Row: Copy + Eq {
 
     // rows that `==` calls equal are the same
     ghost same: { (x y : Self) → IsTrue (Self.eq x y) → x ≡ y };
+
+    // a clone never fails, and is the row itself
+    ghost clones: { (x : Self) → Self.is_infallible x × ((y : Self) → Self.is_clone x y → y ≡ x) };
 }
 
 // The chained index of a register's rows, in memory of the caller.
@@ -43,28 +46,6 @@ fn downwards(link: u16, place: u16) -> u16
     ensures { result ≡ min link place }
 {
     link.min(place)
-}
-
-// The place of the row in use that is the same as the one given. It follows the chain of the row's bucket, so through an
-// index of these rows the end of the chain tells that the row is absent.
-fn find<R: Row>(register: &Register<'_, R>, index: &Index<'_>, row: R) -> Option<u16>
-    requires { register.now.count ≤ length index.now.next.now }
-    ensures { Indexed R.Row.hash register.now.rows.now register.now.count index.now.heads.now index.now.next.now → Finds register.now.rows.now register.now.count row result }
-{
-    let b = bucket(index.heads.len(), row.hash());
-    if b >= index.heads.len() {
-        return None;
-    }
-    let mut link = downwards(index.heads[b], register.count);
-    while link > 0 {
-        let at = link - 1;
-        let earlier = register.rows[at as usize];
-        if earlier == row {
-            return Some(at);
-        }
-        link = downwards(index.next[at as usize], at);
-    }
-    None
 }
 
 // Writes a row into a place.
@@ -127,12 +108,11 @@ fn link_all<R: Row>(rows: &[R], index: &mut Index<'_>)
 // Writes a blank row into each place between two.
 fn clear<R: Row>(rows: &mut [R], from: u16, to: u16, blank: R)
     requires order { from ≤ to }
+    requires within { from ≤ length rows.old }
     ensures { Cleared rows.old from to blank rows.new }
 {
     let end = rows.len().min(to as usize);
-    for at in from as usize..end {
-        rows[at] = blank;
-    }
+    rows[from as usize..end].fill(blank);
 }
 
 impl<'a, R: Row> Register<'a, R> {
@@ -167,6 +147,28 @@ impl<'a, R: Row> Register<'a, R> {
         clear(self.rows, count, before, blank);
     }
 
+    // The place of the row in use that is the same as the one given. It follows the chain of the row's bucket, so through
+    // an index of these rows the end of the chain tells that the row is absent.
+    fn find(&self, index: &Index<'_>, row: R) -> Option<u16>
+        requires { self.now.count ≤ length index.now.next.now }
+        ensures { Indexed R.Row.hash self.now.rows.now self.now.count index.now.heads.now index.now.next.now → Finds self.now.rows.now self.now.count row result }
+    {
+        let b = bucket(index.heads.len(), row.hash());
+        if b >= index.heads.len() {
+            return None;
+        }
+        let mut link = downwards(index.heads[b], self.count);
+        while link > 0 {
+            let at = link - 1;
+            let earlier = self.rows[at as usize];
+            if earlier == row {
+                return Some(at);
+            }
+            link = downwards(index.next[at as usize], at);
+        }
+        None
+    }
+
     // Makes the index one of the rows in use, whatever it was before.
     pub fn link_rows(&self, index: &mut Index<'_>)
         ensures names { (index.new.heads.ghost_name ≡ index.old.heads.ghost_name) × (index.new.next.ghost_name ≡ index.old.next.ghost_name) }
@@ -191,7 +193,7 @@ impl<'a, R: Row> Register<'a, R> {
         if !index.covers(at) {
             return None;
         }
-        if let Some(earlier) = find(self, index, row) {
+        if let Some(earlier) = self.find(index, row) {
             return Some(earlier);
         }
         if at as usize >= self.room(index, most) {
