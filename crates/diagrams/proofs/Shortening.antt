@@ -1,9 +1,9 @@
 -- Joins that ask for no row, and the parts of a row that is read.
-use Rattle.std.proofs.Common.{◌≡◌, ℕ, suc, ◌-◌, ◌≤◌, Bool, true, false, cond, ◌&&◌, ◌||◌, eqb, List, Some, sym, refl, ap, ◌∙◌, inl, inr, arith}
+use Rattle.std.proofs.Common.{◌≡◌, ℕ, suc, ◌-◌, ◌≤◌, ◌≢◌, Bool, true, false, cond, ◌&&◌, ◌||◌, eqb, List, Some, sym, refl, ap, ◌∙◌, inl, inr, arith}
 use Rattle.diagrams.specs.declared.Row.{Row}
 use Rattle.diagrams.specs.Diagram.{row_at, member, position_of}
 use Rattle.diagrams.specs.Making.{child}
-use Rattle.diagrams.specs.Books.{together}
+use Rattle.diagrams.specs.Books.{together, neutral, absorbing}
 use Rattle.diagrams.specs.declared.Operation.{Operation}
 use Rattle.diagrams.specs.declared.Operation.TheVariants.{Union, Intersection}
 use Rattle.diagrams.specs.Applying.{Shortens}
@@ -68,6 +68,28 @@ meet_left_1 a b e = (inr refl, λ rows c. ap (λ v. v && member rows b c) (sym (
 
 pub meet_right_1 : (a b : ℕ) → b ≡ 1 → Shortens Intersection a b (Some a)
 meet_right_1 a b e = (inl refl, λ rows c. and_true (member rows a c) ∙ ap (λ v. member rows a c && v) (sym (at true b 1 member_1 e rows c)))
+
+-- of a number that shortens every join by itself: on the left or on the right
+pub left_neutral : (op : Operation) (a b : ℕ) → a ≡ neutral op → Shortens op a b (Some b)
+left_neutral Union = union_left_0
+left_neutral Intersection = meet_left_1
+
+pub right_neutral : (op : Operation) (a b : ℕ) → b ≡ neutral op → Shortens op a b (Some a)
+right_neutral Union = union_right_0
+right_neutral Intersection = meet_right_1
+
+pub left_absorbing : (op : Operation) (a b : ℕ) → a ≡ absorbing op → Shortens op a b (Some a)
+left_absorbing Union = union_left_1
+left_absorbing Intersection = meet_left_0
+
+pub right_absorbing : (op : Operation) (a b : ℕ) → b ≡ absorbing op → Shortens op a b (Some b)
+right_absorbing Union = union_right_1
+right_absorbing Intersection = meet_right_0
+
+-- any other number is that of a row
+pub row_number : (op : Operation) (n : ℕ) → n ≢ neutral op → n ≢ absorbing op → 2 ≤ n
+row_number Union n a b = omega arith
+row_number Intersection n a b = omega arith
 
 pub position_row : (rows : List Row) (n : ℕ) → 2 ≤ n → position_of rows n ≡ (row_at rows (n - 2)).position
 position_row rows n le = let e : n ≡ suc (suc (n - 2)) = omega arith in ap (position_of rows) e

@@ -10,6 +10,8 @@
 --   Grows                  the rows in use are afterwards exactly those wanted
 --   RefusedFull            they outnumber the book's rows, and the count is as before
 --   together               both, or at least one of two
+--   neutral                the number of the set with which an operation changes no set
+--   absorbing              the number of the set that an operation makes of itself and any set
 --   union_or_intersection  the set of choices that two numbers have together
 --   KeptBook               what always holds of a book
 use Rattle.std.specs.Prelude.{◌≡◌, ℕ, ◌+◌, ◌<◌, ◌≤◌, min, Bool, ◌&&◌, ◌||◌, ◌⊎◌, ◌↔◌, List, ◌++◌, length, drop, replicate}
@@ -64,6 +66,14 @@ pub record RefusedFull (b b' : Book) (W : Part → Type 0) : Type 0 where
 abbrev pub together : Operation → Bool → Bool → Bool
 together Union x y = x || y
 together Intersection x y = x && y
+
+abbrev pub neutral : Operation → ℕ
+neutral Union = 0
+neutral Intersection = 1
+
+abbrev pub absorbing : Operation → ℕ
+absorbing Union = 1
+absorbing Intersection = 0
 
 abbrev pub union_or_intersection : Operation → List Row → ℕ → ℕ → Choices
 union_or_intersection op rows x y c = together op (member rows x c) (member rows y c)

@@ -1,7 +1,9 @@
 #![tactic(auto)]
 
 ghost use Rattle.std.proofs.Common.{rules};
+ghost use Rattle.std.specs.Prelude.{◌≡◌};
 ghost use Rattle.diagrams.specs.Diagram.{row_hash};
+ghost use Rattle.diagrams.specs.Books.{neutral, absorbing};
 
 // A row of a decision diagram: at a position, the numbers of the set's halves without and with it.
 #[derive(Clone, Copy, PartialEq, Eq, Default)]
@@ -16,6 +18,28 @@ pub struct Row {
 pub enum Operation {
     Union,
     Intersection,
+}
+
+impl Operation {
+    // The number of the set with which it changes no set.
+    pub fn neutral(self) -> u16
+        ensures { result ≡ neutral self }
+    {
+        match self {
+            Operation::Union => 0,
+            Operation::Intersection => 1,
+        }
+    }
+
+    // The number of the set that it makes of itself and any set.
+    pub fn absorbing(self) -> u16
+        ensures { result ≡ absorbing self }
+    {
+        match self {
+            Operation::Union => 1,
+            Operation::Intersection => 0,
+        }
+    }
 }
 
 // The rows wanted outnumber those there are.
