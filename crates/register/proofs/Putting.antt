@@ -13,15 +13,15 @@ module _ {R : Type 0} (hash : R → ℕ) (most : ℕ) (rows : List R) (count : �
       → Indexed hash rows count heads next → Put hash most rows count heads next row rows count heads next None
   put_nowhere full f x = record { puts = (full, f x, refl, refl); indexed = x; heads_long = refl; next_long = refl }
 
-  pub put_behind : (h : ℕ) (rows' : List R) (heads' next' : List ℕ) → count < most → count < length rows → count < length next
-      → h ≡ hash row → rows' ≡ set rows count row → heads' ≡ set heads (bucket (length heads) h) (count + 1) → next' ≡ set next count (get_or heads (bucket (length heads) h) 0)
+  pub put_behind : (h : ℕ) (heads' next' : List ℕ) → count < most → count < length rows → count < length next
+      → h ≡ hash row → heads' ≡ set heads (bucket (length heads) h) (count + 1) → next' ≡ set next count (get_or heads (bucket (length heads) h) 0)
       → (Indexed hash rows count heads next → Finds rows count row None)
-      → Indexed hash rows count heads next → Put hash most rows count heads next row rows' (count + 1) heads' next' (Some count)
-  put_behind h rows' heads' next' few lt room eh er ehs en f x = record {
-    puts = inr (refl, omega (arith, few, lt, room), f x, er, refl);
-    indexed = linked_row hash rows' count heads next row h heads' next' (omega (arith, lt, ap length er, length-set rows count row)) room
-        (λ d. rw er (get_or-set_same rows count row d lt)) eh ehs en
-        (indexed_same hash rows rows' count heads next (omega (arith, lt, ap length er, length-set rows count row)) (λ r d l. let ne : r ≢ count = omega (arith, l) in rw er (get_or-set_other rows count r row d ne)) x);
-    heads_long = rw ehs (length-set heads _ _);
-    next_long = rw en (length-set next _ _);
-  }
+      → Indexed hash rows count heads next → Put hash most rows count heads next row (set rows count row) (count + 1) heads' next' (Some count)
+  put_behind h heads' next' few lt room eh ehs en f x =
+      let within : count < length (set rows count row) = omega (arith, lt, length-set rows count row) in record {
+      puts = inr (refl, omega (arith, few, lt, room), f x, refl, refl);
+      indexed = linked_row hash (set rows count row) count heads next row h heads' next' within room (λ d. get_or-set_same rows count row d lt) eh ehs en
+          (indexed_same hash rows (set rows count row) count heads next (omega (arith, within)) (λ r d l. let ne : r ≢ count = omega (arith, l) in get_or-set_other rows count r row d ne) x);
+      heads_long = rw ehs (length-set heads _ _);
+      next_long = rw en (length-set next _ _);
+    }

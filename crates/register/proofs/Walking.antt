@@ -10,16 +10,17 @@ pub record Passed {R : Type 0} (hash : R → ℕ) (buckets : ℕ) (rows : List R
   pub there : (r : ℕ) (d : R) → link ≡ r + 1 → bucket buckets (hash (get_or rows r d)) ≡ bucket buckets (hash row)
   pub absent : (r : ℕ) → link ≤ r → r < count → get_or rows r row ≡ row → ⊥
 
-pub first_passed : {R : Type 0} (hash : R → ℕ) (rows : List R) (count : ℕ) (heads next : List ℕ) (row : R) (b link : ℕ)
-    → b ≡ bucket (length heads) (hash row) → b < length heads → link ≡ min (get_or heads b 0) count
+pub first_passed : {R : Type 0} (hash : R → ℕ) (rows : List R) (count : ℕ) (heads next : List ℕ) (row : R) (h b link : ℕ)
+    → h ≡ hash row → b ≡ bucket (length heads) h → b < length heads → link ≡ min (get_or heads b 0) count
     → Indexed hash rows count heads next → Passed hash (length heads) rows count row link
-first_passed hash rows count heads next row b link e lt f x =
+first_passed hash rows count heads next row h b link eh eb lt f x =
+    let e : b ≡ bucket (length heads) (hash row) = eb ∙ ap (bucket (length heads)) eh in
     let k = x.head b lt in
     let same : link ≡ get_or heads b 0 = omega (arith, f, k.below) in
     record {
       below = omega (arith, k.below, same);
       there = λ r d q. k.there r d (sym same ∙ q) ∙ e;
-      absent = λ r le h q. k.passed r row (omega (arith, le, same)) h (ap (λ z. bucket (length heads) (hash z)) q ∙ sym e);
+      absent = λ r le below q. k.passed r row (omega (arith, le, same)) below (ap (λ z. bucket (length heads) (hash z)) q ∙ sym e);
     }
 
 pub next_passed : {R : Type 0} (hash : R → ℕ) (rows : List R) (count : ℕ) (heads next : List ℕ) (row : R) (link at link' : ℕ)

@@ -18,7 +18,8 @@ pub trait Row: Copy + Eq {
     ghost clones: { (x : Self) → Self.is_infallible x × ((y : Self) → Self.is_clone x y → y ≡ x) };
 }
 
-// The chained index of a register's rows, in memory of the caller.
+// The chained index of a register's rows, in memory of the caller. Lent memory of fixed size holds the chains, so a link is a
+// number, one more than the place of a row, or 0 at the end of a chain.
 #[derive(Drop)]
 pub struct Index<'a> {
     pub heads: &'a mut [u16],
@@ -46,14 +47,6 @@ fn downwards(link: u16, place: u16) -> u16
     ensures { result ≡ min link place }
 {
     link.min(place)
-}
-
-// Writes a row into a place.
-fn append<R: Row>(rows: &mut [R], at: u16, row: R)
-    requires { at < length rows.old }
-    ensures { rows.new ≡ slice_set rows.old at row }
-{
-    rows[at as usize] = row;
 }
 
 impl Index<'_> {
@@ -199,7 +192,7 @@ impl<'a, R: Row> Register<'a, R> {
         if at as usize >= self.room(index, most) {
             return None;
         }
-        append(self.rows, at, row);
+        self.rows[at as usize] = row;
         index.link(row.hash(), at);
         self.count = at + 1;
         Some(at)

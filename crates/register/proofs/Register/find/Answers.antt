@@ -9,8 +9,8 @@ loop-link-init g c =
     let s = c.args.self.now in
     let x = c.args.index.now in (
       omega arith,
-      first_passed g.R.Row.hash s.rows.now s.count x.heads.now x.next.now c.args.row c.bucket-b.result c.downwards-link.result
-          (c.bucket-b.ensures.value ∙ ap (bucket (length x.heads.now)) c.hash.ensures) c.if-b-index.false c.downwards-link.ensures,
+      first_passed g.R.Row.hash s.rows.now s.count x.heads.now x.next.now c.args.row c.hash.result c.bucket-b.result c.downwards-link.result
+          c.hash.ensures c.bucket-b.ensures.value c.if-b-index.false c.downwards-link.ensures,
     )
 
 pub loop-link-preserved : goal.loop-link-preserved

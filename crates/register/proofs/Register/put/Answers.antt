@@ -1,4 +1,4 @@
-use Rattle.std.proofs.Common.{refl, arith}
+use Rattle.std.proofs.Common.{arith}
 use Rattle.register.proofs.Putting.{put_found, put_nowhere, put_behind}
 use Rattle.register.proofs.Register.put.Goals as goal
 
@@ -18,5 +18,5 @@ pub returns-clause-put : goal.returns-clause-put
 returns-clause-put g c =
     let s = c.args.self.now in
     let x = c.args.index.now in
-    put_behind g.R.Row.hash c.args.most s.rows.now s.count x.heads.now x.next.now c.args.row c.hash.result c.append.new.rows c.link.new.self.heads.now c.link.new.self.next.now
-        (omega arith) (omega arith) (omega arith) c.hash.ensures c.append.ensures c.link.ensures.heads c.link.ensures.next c.in_default.ensures
+    put_behind g.R.Row.hash c.args.most s.rows.now s.count x.heads.now x.next.now c.args.row c.hash.result c.link.new.self.heads.now c.link.new.self.next.now
+        (omega arith) (omega arith) (omega arith) c.hash.ensures c.link.ensures.heads c.link.ensures.next c.in_default.ensures
