@@ -107,4 +107,4 @@ pub indexed_all : {R : Type 0} (hash : R → ℕ) (rows : List R) (count : ℕ) 
     → Indexed hash (take count rows) (length (take count rows)) heads next → Indexed hash rows count heads next
 indexed_all hash rows count heads next within x =
     indexed_same hash (take count rows) rows count heads next within (λ r d lt. sym (get_or-take count rows r d lt))
-        (subst (λ z. Indexed hash (take count rows) z heads next) (length-take-le count rows within) x)
+    (subst (λ z. Indexed hash (take count rows) z heads next) (length-take-le count rows within) x)

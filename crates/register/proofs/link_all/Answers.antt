@@ -1,4 +1,4 @@
-use Rattle.std.proofs.Common.{◌<◌, length, sym, refl, ◌∙◌, arith, length-set}
+use Rattle.std.proofs.Common.{◌<◌, length, sym, refl, arith, rules}
 use Rattle.std.proofs.lemmas.List.{get_or_read}
 use Rattle.register.proofs.Linking.{no_rows, linked_row}
 use Rattle.register.proofs.link_all.Goals as goal
@@ -14,8 +14,8 @@ loop-at-preserved g c =
       linked_row g.R.Row.hash c.args.rows.now c.loop-at.at l.heads.now l.next.now c.index-rows-at.result c.hash.result c.link.new.self.heads.now c.link.new.self.next.now
           lt (omega (arith, x.4, c.requires.next)) (λ d. sym (get_or_read c.args.rows.now c.loop-at.at c.index-rows-at.result lt c.index-rows-at.is d))
           c.hash.ensures c.link.ensures.heads c.link.ensures.next x.0,
-      c.link.ensures.names.0 ∙ x.1,
-      c.link.ensures.names.1 ∙ x.2,
-      (rw c.link.ensures.heads (length-set l.heads.now _ _)) ∙ x.3,
-      (rw c.link.ensures.next (length-set l.next.now _ _)) ∙ x.4,
+      search rules,
+      search rules,
+      search rules,
+      search rules,
     )

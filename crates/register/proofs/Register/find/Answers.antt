@@ -1,6 +1,5 @@
-use Rattle.std.proofs.Common.{◌-◌, ◌<◌, length, ap, ◌∙◌, arith}
+use Rattle.std.proofs.Common.{◌-◌, ◌<◌, length, ◌∙◌, arith}
 use Rattle.std.proofs.lemmas.List.{get_or_default}
-use Rattle.register.specs.Chains.{bucket}
 use Rattle.register.proofs.Walking.{first_passed, next_passed, unequal_differ}
 use Rattle.register.proofs.Register.find.Goals as goal
 

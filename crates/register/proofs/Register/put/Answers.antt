@@ -19,4 +19,4 @@ returns-clause-put g c =
     let s = c.args.self.now in
     let x = c.args.index.now in
     put_behind g.R.Row.hash c.args.most s.rows.now s.count x.heads.now x.next.now c.args.row c.hash.result c.link.new.self.heads.now c.link.new.self.next.now
-        (omega arith) (omega arith) (omega arith) c.hash.ensures c.link.ensures.heads c.link.ensures.next c.in_default.ensures
+    (omega arith) (omega arith) (omega arith) c.hash.ensures c.link.ensures.heads c.link.ensures.next c.in_default.ensures
