@@ -1,7 +1,7 @@
 -- How a fact of the theory of differences is made.
 --
---   fact_of     the fact that has the parts that the code holds
 --   strictness  1 for <, 0 for ≤
+--   fact_of     the fact that has the parts that the code holds
 --   in_range    a constant from −15 to 15
 --   fact_made   the number of a fact, or why it was not made: first a variable that is not there, then a constant out of range
 use Rattle.std.specs.Prelude.{ℕ, Bool, cond, ◌&&◌, ℤ, pos, negsuc, Ok, Err, Result, int_le, nat_lt}

@@ -165,7 +165,7 @@ impl Differences {
 
     // The rule that adds two facts which meet in a variable.
     // The constants come first: where the place is empty, the divisions by v are saved.
-    #[tactic(auto, using(potentials::proofs::Numbers::first_within, potentials::proofs::Numbers::second_within, potentials::proofs::Numbers::sum_within, potentials::proofs::Rules::sum_is, potentials::proofs::Rules::no_sum), unfolding(potentials::specs::Differences::first, potentials::specs::Differences::second))]
+    #[tactic(auto, unfolding(potentials::specs::Differences::sum_rule, potentials::specs::Differences::first, potentials::specs::Differences::second))]
     fn sum_rule(self, place: u32) -> Option<Rule>
         requires { place < sum_count self.variables }
         ensures { result ≡ sum_rule self.variables (first self.variables place) (second self.variables place) }
@@ -181,7 +181,7 @@ impl Differences {
     }
 
     // The rule by which an impossible fact gives the contradiction.
-    #[tactic(auto, using(potentials::proofs::Rules::loop_is, potentials::proofs::Rules::no_loop, potentials::proofs::Rules::past_loops))]
+    #[tactic(auto, unfolding(potentials::specs::Differences::loop_rule))]
     fn loop_rule(self, fact: u32) -> Option<Rule>
         ensures { result ≡ loop_rule self.variables fact }
     {
@@ -214,7 +214,7 @@ impl Theory for Differences {
     }
 
     // The sums come first, then a place for each fact.
-    #[tactic(auto, using(potentials::proofs::Rules::rule_of_sum, potentials::proofs::Rules::rule_of_loop))]
+    #[tactic(auto, unfolding(potentials::specs::Differences::rule_at))]
     fn rule(&self, place: u32) -> Option<Rule> {
         match place.checked_sub(self.sum_count()) {
             None => self.sum_rule(place),
@@ -222,7 +222,7 @@ impl Theory for Differences {
         }
     }
 
-    #[tactic(auto, using(potentials::proofs::Rules::opposite_is, potentials::proofs::Rules::past_opposites, potentials::proofs::Numbers::difference_within, potentials::proofs::Numbers::reversed_within))]
+    #[tactic(auto, using(potentials::proofs::Numbers::difference_within), unfolding(potentials::specs::Differences::opposite_of))]
     fn opposite(&self, fact: u16) -> Option<u16> {
         let parts = self.parts(fact.into())?;
         Some(self.number(parts.reversed()))
