@@ -12,6 +12,7 @@ mod parts;
 use parts::{CONSTANTS, Parts, added};
 use theory::{Conclusion, FactFault, Rule, Theory, TheoryFault};
 
+// How many variables there may be.
 const MOST_VARIABLES: u8 = 8;
 
 // How many pairs of constants there are.

@@ -2,9 +2,10 @@ ghost use Rattle.std.specs.Prelude.{◌≡◌, ◌+◌, ◌-◌, ◌<◌, ◌≤
 
 use crate::Bound;
 
-// Constants go from -15 to 15, and c is held as c + 15: so many there are, and so 0 is held.
+// How many constants there are: those from -15 to 15.
 pub const CONSTANTS: u32 = 31;
 
+// How the constant 0 is held: c is held as c + 15.
 pub const ZERO: u32 = 15;
 
 // A fact in its parts, which are the digits of its number.
