@@ -1,19 +1,52 @@
 #![tactic(auto)]
 
-ghost use Rattle.std.specs.Prelude.{◌≡◌, ◌+◌, ◌-◌, ◌<◌, ◌≤◌, MatchOption, MatchResult};
+ghost use Rattle.std.specs.Prelude.{◌≡◌, ◌-◌, ◌<◌, ◌≤◌, MatchOption, MatchResult};
 ghost use Rattle.theory.specs.declared.faults.TheoryFault.TheVariants.{TooManyVariables};
 ghost use Rattle.theory.specs.Theory.{Lawful};
-ghost use Rattle.potentials.specs.Differences.{Within, number, difference, reversed, impossible, first, second, fact_count, sum_count, sum_rule, loop_rule, differences};
+ghost use Rattle.potentials.specs.Differences.{Within, number, difference, first, second, fact_count, sum_count, sum_rule, loop_rule, differences};
 ghost use Rattle.potentials.proofs.Laws.{differences_lawful};
 ghost use Rattle.differences.specs.Facts.{fact_of, strictness, fact_made};
 
+mod parts;
+
+use parts::{CONSTANTS, Parts, added};
 use theory::{Conclusion, FactFault, Rule, Theory, TheoryFault};
 
+// How many variables there may be.
+const MOST_VARIABLES: u8 = 8;
+
+// How many pairs of constants there are.
+const PAIRS: u32 = CONSTANTS * CONSTANTS;
+
 // How a fact bounds its left variable: by ≤ or by <.
-#[derive(Clone, Copy)]
+#[derive(Clone, Copy, PartialEq, Eq, PartialOrd, Ord)]
 pub enum Bound {
-    AtMost,
-    Below,
+    AtMost = 0,
+    Below = 1,
+}
+
+impl Bound {
+    // The bound with this number.
+    fn of(number: u32) -> Bound
+        requires { number < 2 }
+        ensures { strictness result ≡ number }
+    {
+        if number == 0 {
+            Bound::AtMost
+        } else {
+            Bound::Below
+        }
+    }
+
+    // The bound of the opposite fact: not ≤ is <, and not < is ≤.
+    fn opposite(self) -> Bound
+        ensures { strictness result ≡ 1 - strictness self }
+    {
+        match self {
+            Bound::AtMost => Bound::Below,
+            Bound::Below => Bound::AtMost,
+        }
+    }
 }
 
 // The theory of facts x ≤ y + c and x < y + c between so many variables, with constants from -15 to 15.
@@ -25,11 +58,12 @@ pub struct Differences {
 
 impl Differences {
     // The theory over these variables; more than 8 are refused.
+    #[tactic(auto, using(potentials::proofs::Laws::differences_lawful))]
     pub fn new(variables: u8) -> Result<Differences, TheoryFault>
         ensures made { MatchResult result (λ d. (variables ≤ 8) × (d.variables ≡ variables)) (λ e. (8 < variables) × (e ≡ TooManyVariables)) }
         ensures laws { variables ≤ 8 → Lawful (differences variables) }
     {
-        if variables > 8 {
+        if variables > MOST_VARIABLES {
             return Err(TheoryFault::TooManyVariables);
         }
         Ok(Differences { variables })
@@ -48,154 +82,113 @@ impl Differences {
         if left >= self.variables || right >= self.variables {
             return Err(FactFault::NoVariable);
         }
-        if constant < -15 || constant > 15 {
+        if !(-15..=15).contains(&constant) {
             return Err(FactFault::ConstantOutOfRange);
         }
-        let (x, y) = (left as u32, right as u32);
-        let parts = Parts {
-            strict: bound.strictness(),
-            left: x,
-            right: y,
+        Ok(self.number(Parts {
+            bound,
+            left: left.into(),
+            right: right.into(),
             constant: (constant + 15) as u32,
-        };
-        Ok(parts.number(self.variables as u32))
+        }))
     }
-}
 
-impl Bound {
-    fn strictness(self) -> u32
-        ensures { result ≡ strictness self }
+    // How many facts there are: one for two variables, a bound and a constant.
+    fn fact_count(self) -> u32
+        ensures { result ≡ fact_count self.variables }
     {
-        match self {
-            Bound::AtMost => 0,
-            Bound::Below => 1,
+        let v = u32::from(self.variables);
+        2 * CONSTANTS * (v * v)
+    }
+
+    // How many places there are for sums: one for three variables, two bounds and two constants.
+    fn sum_count(self) -> u32
+        ensures { result ≡ sum_count self.variables }
+    {
+        let v = u32::from(self.variables);
+        4 * PAIRS * (v * v * v)
+    }
+
+    // The number of a fact of the theory.
+    #[tactic(auto, unfolding(potentials::specs::Differences::number))]
+    fn number(self, parts: Parts) -> u16
+        requires { Within self.variables (fact_of parts) }
+        ensures { result ≡ number self.variables (fact_of parts) }
+    {
+        let v = u32::from(self.variables);
+        (((parts.bound as u32 * v + parts.left) * v + parts.right) * CONSTANTS
+            + parts.constant) as u16
+    }
+
+    // The fact with this number in its parts; none past the last fact.
+    #[tactic(auto, using(potentials::proofs::Numbers::difference_within), unfolding(potentials::specs::Differences::difference))]
+    fn parts(self, fact: u32) -> Option<Parts>
+        ensures { MatchOption result (fact_count self.variables ≤ fact) (λ p. (fact < fact_count self.variables) × (fact_of p ≡ difference self.variables fact)) }
+    {
+        if fact >= self.fact_count() {
+            return None;
         }
-    }
-}
-
-// A fact in its parts, which are the digits of its number: strict is 1 for <, and the constant is held as c + 15.
-#[derive(Clone, Copy)]
-struct Parts {
-    strict: u32,
-    left: u32,
-    right: u32,
-    constant: u32,
-}
-
-impl Parts {
-    fn of(v: u32, fact: u32) -> Parts
-        requires { fact < fact_count v }
-        ensures same { fact_of result ≡ difference v fact }
-        ensures within { Within v (fact_of result) }
-    {
-        let ends = fact / 31;
-        Parts {
-            strict: ends / v / v,
+        let v = u32::from(self.variables);
+        let ends = fact / CONSTANTS;
+        Some(Parts {
+            bound: Bound::of(ends / v / v),
             left: ends / v % v,
             right: ends % v,
-            constant: fact % 31,
-        }
+            constant: fact % CONSTANTS,
+        })
     }
 
-    fn number(self, v: u32) -> u16
-        requires { (v ≤ 8) × (Within v (fact_of self)) }
-        ensures { result ≡ number v (fact_of self) }
+    // The two facts whose sum stands at a place.
+    #[tactic(auto, using(potentials::proofs::Numbers::first_within), unfolding(potentials::specs::Differences::first, potentials::specs::Differences::second))]
+    fn premises(self, place: u32) -> (Parts, Parts)
+        requires { place < sum_count self.variables }
+        ensures one { fact_of result.0 ≡ first self.variables place }
+        ensures two { fact_of result.1 ≡ second self.variables place }
     {
-        (((self.strict * v + self.left) * v + self.right) * 31 + self.constant) as u16
+        let v = u32::from(self.variables);
+        let ends = place / PAIRS;
+        let meeting = ends / v % v;
+        let bounds = ends / v / v / v;
+        let first = Parts {
+            bound: Bound::of(bounds / 2),
+            left: ends / v / v % v,
+            right: meeting,
+            constant: place / CONSTANTS % CONSTANTS,
+        };
+        let second = Parts {
+            bound: Bound::of(bounds % 2),
+            left: meeting,
+            right: ends % v,
+            constant: place % CONSTANTS,
+        };
+        (first, second)
     }
 
-    // The opposite: not x ≤ y + c says y < x - c.
-    fn reversed(self) -> Parts
-        requires { (self.strict ≤ 1) × (self.constant ≤ 30) }
-        ensures { fact_of result ≡ reversed (fact_of self) }
+    // The rule that adds two facts which meet in a variable.
+    // The constants come first: where the place is empty, the divisions by v are saved.
+    #[tactic(auto, unfolding(potentials::specs::Differences::sum_rule, potentials::specs::Differences::first, potentials::specs::Differences::second))]
+    fn sum_rule(self, place: u32) -> Option<Rule>
+        requires { place < sum_count self.variables }
+        ensures { result ≡ sum_rule self.variables (first self.variables place) (second self.variables place) }
     {
-        Parts {
-            strict: 1 - self.strict,
-            left: self.right,
-            right: self.left,
-            constant: 30 - self.constant,
-        }
+        let constant = added(place / CONSTANTS % CONSTANTS, place % CONSTANTS)?;
+        let (first, second) = self.premises(place);
+        let sum = first.sum(second, constant);
+        Some(Rule::Both(
+            self.number(first),
+            self.number(second),
+            Conclusion::Fact(self.number(sum)),
+        ))
     }
 
-    // No value meets the fact: x ≤ x + c with c < 0, or x < x + c with c ≤ 0.
-    fn impossible(self) -> bool
-        requires { self.strict ≤ 1 }
-        ensures { result ≡ impossible (fact_of self) }
+    // The rule by which an impossible fact gives the contradiction.
+    #[tactic(auto, unfolding(potentials::specs::Differences::loop_rule))]
+    fn loop_rule(self, fact: u32) -> Option<Rule>
+        ensures { result ≡ loop_rule self.variables fact }
     {
-        self.left == self.right && self.constant < 15 + self.strict
+        let impossible = self.parts(fact)?.impossible();
+        impossible.then_some(Rule::From(fact as u16, Conclusion::Contradiction))
     }
-}
-
-// The constant of a sum, from two as they are held: none above 15, and -15 for a lower one.
-fn added(c: u32, d: u32) -> Option<u32>
-    requires { (c < 31) × (d < 31) }
-    ensures { MatchOption result (45 < c + d) (λ w. (c + d ≤ 45) × (w ≡ c + d - 15)) }
-{
-    if c + d > 45 {
-        return None;
-    }
-    Some((c + d).saturating_sub(15))
-}
-
-// The two facts whose sum stands at a place.
-fn premises(v: u32, place: u32) -> (Parts, Parts)
-    requires { place < sum_count v }
-    ensures one { fact_of result.0 ≡ first v place }
-    ensures two { fact_of result.1 ≡ second v place }
-{
-    let ends = place / 961;
-    let meeting = ends / v % v;
-    let marks = ends / v / v / v;
-    let first = Parts {
-        strict: marks / 2,
-        left: ends / v / v % v,
-        right: meeting,
-        constant: place / 31 % 31,
-    };
-    let second = Parts {
-        strict: marks % 2,
-        left: meeting,
-        right: ends % v,
-        constant: place % 31,
-    };
-    (first, second)
-}
-
-// The rule that adds two facts which meet in a variable.
-// The constants come first: where the place is empty, the divisions by v are saved.
-fn sum_rule(v: u32, place: u32) -> Option<Rule>
-    requires { (v ≤ 8) × (place < sum_count v) }
-    ensures { result ≡ sum_rule v (first v place) (second v place) }
-{
-    let Some(constant) = added(place / 31 % 31, place % 31) else {
-        return None;
-    };
-    let (first, second) = premises(v, place);
-    let sum = Parts {
-        strict: first.strict.max(second.strict),
-        left: first.left,
-        right: second.right,
-        constant,
-    };
-    Some(Rule::Both(
-        first.number(v),
-        second.number(v),
-        Conclusion::Fact(sum.number(v)),
-    ))
-}
-
-// The rule by which an impossible fact gives the contradiction.
-fn loop_rule(v: u32, fact: u32) -> Option<Rule>
-    requires { v ≤ 8 }
-    ensures { result ≡ loop_rule v fact }
-{
-    if fact >= 62 * (v * v) {
-        return None;
-    }
-    if !Parts::of(v, fact).impossible() {
-        return None;
-    }
-    Some(Rule::From(fact as u16, Conclusion::Contradiction))
 }
 
 impl Theory for Differences {
@@ -214,30 +207,25 @@ impl Theory for Differences {
     ghost lawful = { λ t. differences_lawful t.variables t.few };
 
     fn facts(&self) -> u16 {
-        let v = self.variables as u16;
-        62 * (v * v)
+        self.fact_count() as u16
     }
 
     fn places(&self) -> u32 {
-        let v = self.variables as u32;
-        3844 * (v * v * v) + 62 * (v * v)
+        self.sum_count() + self.fact_count()
     }
 
+    // The sums come first, then a place for each fact.
+    #[tactic(auto, unfolding(potentials::specs::Differences::rule_at))]
     fn rule(&self, place: u32) -> Option<Rule> {
-        let v = self.variables as u32;
-        let sums = 3844 * (v * v * v);
-        if place < sums {
-            return sum_rule(v, place);
+        match place.checked_sub(self.sum_count()) {
+            None => self.sum_rule(place),
+            Some(fact) => self.loop_rule(fact),
         }
-        loop_rule(v, place - sums)
     }
 
+    #[tactic(auto, using(potentials::proofs::Numbers::difference_within), unfolding(potentials::specs::Differences::opposite_of))]
     fn opposite(&self, fact: u16) -> Option<u16> {
-        let v = self.variables as u32;
-        let fact = fact as u32;
-        if fact >= 62 * (v * v) {
-            return None;
-        }
-        Some(Parts::of(v, fact).reversed().number(v))
+        let parts = self.parts(fact.into())?;
+        Some(self.number(parts.reversed()))
     }
 }
