@@ -4,8 +4,9 @@ ghost use Rattle.records.specs.Records.{zeros as zerosOf, if_zeros, signed, symb
 use crate::faults::RecordFault;
 
 // The relation of a predicate or a goal, by its letter: `=`, `!`, `L` or `<`.
-#[derive(Clone, Copy)]
+#[derive(Clone, Copy, Default)]
 pub enum Relation {
+    #[default]
     Equal,
     Different,
     AtMost,
@@ -20,7 +21,7 @@ pub enum TheoryName {
 }
 
 // A predicate or a goal as it was written, before a theory has looked at it.
-#[derive(Clone, Copy)]
+#[derive(Clone, Copy, Default)]
 pub struct Statement {
     pub relation: Relation,
     pub left: u8,
