@@ -1,5 +1,5 @@
 -- Lines grow: what a write behind the text makes of a line.
-use Rattle.std.proofs.Common.{◌≡◌, ℕ, ◌+◌, ◌-◌, ◌≤◌, List, ◌++◌, length, replicate, sym, refl, arith, append_assoc}
+use Rattle.std.proofs.Common.{◌≡◌, ℕ, ◌+◌, ◌-◌, ◌≤◌, List, ◌++◌, length, replicate, sym, arith, append_assoc}
 use Rattle.std.proofs.Math.Seq.{paste, take-append_seam, take-length, drop-append-add}
 use Rattle.std.proofs.lemmas.List.{drop-replicate, length-append}
 use Rattle.records.specs.declared.line.Line.{Line}
