@@ -8,8 +8,8 @@ use theory::Refusal;
 const ROOM: usize = 48;
 
 // A printed line: `len` bytes of text, and zeros behind them.
-// Tools rely on 48 bytes with zeros behind the text, so it is an array with its length beside it.
-// A ghost field `len ≤ 48` would have `line_of` ask for a proof at each text; the clauses `room` say it plainer.
+// Tools rely on the 48 bytes with zeros behind the text, so an array stands here with its length beside it.
+// A ghost field `len ≤ 48` was tried: then `line_of` lacks a proof of it, so the clauses `room` say it.
 #[derive(Clone, Copy)]
 pub struct Line {
     pub bytes: [u8; ROOM],
@@ -61,6 +61,7 @@ impl Line {
         &self.bytes[..self.len.min(ROOM)]
     }
 
+    // More bytes behind the text.
     fn with_bytes(mut self, more: &[u8]) -> Line
         requires { self.len + length more.now ≤ 48 }
         ensures len { result.len ≡ self.len + length more.now }
@@ -73,6 +74,7 @@ impl Line {
         self
     }
 
+    // A number behind the text, in decimal.
     fn with_number<I: Integer>(self, n: I) -> Line
         requires { self.len + I.MAX_STR_LEN ≤ 48 }
         ensures len { result.len ≤ self.len + I.MAX_STR_LEN }

@@ -19,6 +19,7 @@ pub struct Pending {
 }
 
 impl Pending {
+    // Nothing waits.
     pub fn new() -> Pending
         ensures predicates { predicates_of result ≡ [] }
         ensures goals { goals_of result ≡ [] }
@@ -29,6 +30,7 @@ impl Pending {
         }
     }
 
+    // One more predicate, unless as many wait as may.
     pub fn add_predicate(&mut self, statement: Statement) -> Result<(), RecordFault>
         ensures answer { result ≡ if_room 16 TooManyPredicates (predicates_of self.old) }
         ensures predicates { predicates_of self.new ≡ with_one 16 (predicates_of self.old) statement }
@@ -39,6 +41,7 @@ impl Pending {
             .or(Err(RecordFault::TooManyPredicates))
     }
 
+    // One more goal, unless as many wait as may.
     pub fn add_goal(&mut self, statement: Statement) -> Result<(), RecordFault>
         ensures answer { result ≡ if_room 8 TooManyGoals (goals_of self.old) }
         ensures predicates { predicates_of self.new ≡ predicates_of self.old }
@@ -49,6 +52,7 @@ impl Pending {
             .or(Err(RecordFault::TooManyGoals))
     }
 
+    // Lets go of all that waits.
     pub fn clear(&mut self)
         ensures predicates { predicates_of self.new ≡ [] }
         ensures goals { goals_of self.new ≡ [] }
@@ -57,6 +61,7 @@ impl Pending {
         self.goals.clear();
     }
 
+    // The predicates that wait.
     pub fn predicates(&self) -> &[Statement]
         ensures these { result.now ≡ predicates_of self.now }
         ensures few { length result.now ≤ 16 }
@@ -64,6 +69,7 @@ impl Pending {
         self.predicates.as_slice()
     }
 
+    // The goals that wait.
     pub fn goals(&self) -> &[Statement]
         ensures these { result.now ≡ goals_of self.now }
         ensures few { length result.now ≤ 8 }

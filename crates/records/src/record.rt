@@ -55,6 +55,7 @@ pub fn read(bytes: &[u8]) -> Result<Record, RecordFault>
     Record::try_from(*eight)
 }
 
+// What eight bytes say, by the letter in the first.
 impl TryFrom<[u8; RECORD]> for Record {
     type Error = RecordFault;
 
@@ -72,6 +73,7 @@ impl TryFrom<[u8; RECORD]> for Record {
     }
 }
 
+// A term: its argument count, its symbol with the high byte first, and its arguments.
 fn read_term(bytes: [u8; RECORD]) -> Result<Record, RecordFault>
     ensures { result ≡ term_of bytes }
 {
@@ -85,6 +87,7 @@ fn read_term(bytes: [u8; RECORD]) -> Result<Record, RecordFault>
     if_zeros(&bytes[6..], term)
 }
 
+// A predicate or a goal: its relation, its sides and its constant in two's complement.
 impl TryFrom<[u8; RECORD]> for Statement {
     type Error = RecordFault;
 
@@ -102,6 +105,7 @@ impl TryFrom<[u8; RECORD]> for Statement {
     }
 }
 
+// The relation that a letter names.
 impl TryFrom<u8> for Relation {
     type Error = RecordFault;
 
@@ -118,6 +122,7 @@ impl TryFrom<u8> for Relation {
     }
 }
 
+// The theory that a letter names, for differences with the number of variables behind it.
 impl TryFrom<[u8; RECORD]> for TheoryName {
     type Error = RecordFault;
 
