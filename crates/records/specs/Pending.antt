@@ -4,16 +4,16 @@
 --   goals_of       the pending goals
 --   with_one       one more behind a list that has room for it; a full list stays as it is
 --   if_room        whether one more is taken, or why it is refused
-use Rattle.std.specs.Prelude.{ℕ, cond, List, [], ◌∷◌, ◌++◌, length, take, Ok, Err, Result, nat_lt}
+use Rattle.std.specs.Prelude.{ℕ, cond, List, [], ◌∷◌, ◌++◌, length, Ok, Err, Result, nat_lt}
 use Rattle.records.specs.declared.faults.RecordFault.{RecordFault}
 use Rattle.records.specs.declared.record.Statement.{Statement}
 use Rattle.records.specs.declared.pending.Pending.{Pending}
 
 abbrev pub predicates_of : Pending → List Statement
-predicates_of p = take p.predicate_count p.predicates
+predicates_of p = p.predicates.items
 
 abbrev pub goals_of : Pending → List Statement
-goals_of p = take p.goal_count p.goals
+goals_of p = p.goals.items
 
 abbrev pub with_one : {X : Type 0} → ℕ → List X → X → List X
 with_one most xs x = cond (nat_lt (length xs) most) (xs ++ (x ∷ [])) xs

@@ -11,7 +11,8 @@
 --   theory_of     the theory of a question: byte 1 its letter, with D byte 2 the number of variables
 --   eight_of      what eight bytes say, by the letter in byte 0
 --   record_of     what the first eight bytes say; fewer are cut
-use Rattle.std.specs.Prelude.{ℕ, ◌+◌, ◌-◌, ◌*◌, Bool, true, cond, ◌&&◌, List, [], ◌∷◌, length, take, drop, ℤ, pos, negsuc, Ok, Err, Result, ◌==◌, nat_lt, slice_index}
+use Rattle.std.specs.Prelude.{ℕ, ◌+◌, ◌-◌, ◌*◌, Bool, cond, List, length, take, drop, ℤ, pos, negsuc, Ok, Err, Result, ◌==◌, nat_lt, slice_index}
+use Rattle.std.specs.List.{list_all}
 use Rattle.records.specs.declared.faults.RecordFault.{RecordFault}
 use Rattle.records.specs.declared.faults.RecordFault.TheVariants.{Cut, UnknownLetter, NotZero}
 use Rattle.records.specs.declared.record.Relation.{Relation}
@@ -27,8 +28,7 @@ then (Ok x) f = f x
 then (Err e) f = Err e
 
 abbrev pub zeros : List ℕ → Bool
-zeros [] = true
-zeros (b ∷ bs) = b == 0 && zeros bs
+zeros = list_all (λ b. b == 0)
 
 -- what was read, if the bytes that it does not use are zero
 abbrev pub if_zeros : {X : Type 0} → List ℕ → X → Result X RecordFault

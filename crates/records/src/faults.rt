@@ -1,30 +1,23 @@
-ghost use Rattle.std.specs.Prelude.{◌≡◌};
 ghost use Rattle.records.specs.Faults.{record_fault_number};
 
+use theory::Refusal;
+
 // Why a record was refused.
-#[derive(Clone, Copy)]
+#[derive(Clone, Copy, PartialEq, Eq)]
 pub enum RecordFault {
-    Cut,
-    UnknownLetter,
-    NotZero,
-    TooManyPredicates,
-    TooManyGoals,
-    WrongRelation,
-    TooManyAnswers,
+    TooManyPredicates = 9,
+    TooManyGoals = 10,
+    Cut = 16,
+    UnknownLetter = 17,
+    NotZero = 18,
+    WrongRelation = 19,
+    TooManyAnswers = 20,
 }
 
-impl RecordFault {
-    pub fn number(&self) -> u8
-        ensures { result ≡ record_fault_number self.now }
-    {
-        match self {
-            RecordFault::TooManyPredicates => 9,
-            RecordFault::TooManyGoals => 10,
-            RecordFault::Cut => 16,
-            RecordFault::UnknownLetter => 17,
-            RecordFault::NotZero => 18,
-            RecordFault::WrongRelation => 19,
-            RecordFault::TooManyAnswers => 20,
-        }
+impl Refusal for RecordFault {
+    ghost number = { record_fault_number };
+
+    fn number(self) -> u8 {
+        self as u8
     }
 }

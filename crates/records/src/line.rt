@@ -1,13 +1,18 @@
-ghost use Rattle.std.specs.Prelude.{◌≡◌, ℕ, ◌+◌, ◌%◌, ◌<◌, ◌≤◌, List, [], ◌∷◌, ◌++◌, length, codes, decimal};
-ghost use Rattle.records.specs.Lines.{space, line_of, put_into, answer_text, refusal_text};
+ghost use Rattle.std.specs.Prelude.{◌≡◌, ℕ, ◌+◌, ◌≤◌, List, [], ◌++◌, length, take};
+ghost use Rattle.records.specs.Lines.{line_of, answer_text, refusal_text};
+
+use itoa::{Buffer, Integer};
+use theory::Refusal;
 
 // How many bytes every line has room for.
 const ROOM: usize = 48;
 
 // A printed line: `len` bytes of text, and zeros behind them.
+// Tools rely on the 48 bytes with zeros behind the text, so an array stands here with its length beside it.
+// A ghost field `len ≤ 48` was tried: then `line_of` lacks a proof of it, so the clauses `room` say it.
 #[derive(Clone, Copy)]
 pub struct Line {
-    pub bytes: [u8; 48],
+    pub bytes: [u8; ROOM],
     pub len: usize,
 }
 
@@ -16,82 +21,65 @@ pub fn answer_line(ordinal: u16, count: u32, first: u16) -> Line
     ensures text { result ≡ line_of (answer_text ordinal count first) }
     ensures room { result.len ≤ 48 }
 {
-    let numbers = empty()
-        .push_decimal(ordinal as u64)
-        .push_spaced(count as u64)
-        .push_spaced(first as u64);
-    numbers.push(b'\n')
+    Line::new()
+        .with_number(ordinal)
+        .with_bytes(b" ")
+        .with_number(count)
+        .with_bytes(b" ")
+        .with_number(first)
+        .with_bytes(b"\n")
 }
 
 // The line of a refusal, by its number, at the place of a record, counted from 1.
-pub fn refusal_line(number: u8, place: u64) -> Line
-    ensures text { result ≡ line_of (refusal_text number place) }
+pub fn refusal_line<F: Refusal>(fault: F, place: u64) -> Line
+    ensures text { result ≡ line_of (refusal_text (F.number fault) place) }
     ensures room { result.len ≤ 48 }
 {
-    let refusal = refused().push_spaced(number as u64);
-    let at = refusal.push(b' ').push(b'a').push(b't');
-    at.push_spaced(place).push(b'\n')
-}
-
-fn empty() -> Line
-    ensures { result ≡ line_of [] }
-{
-    Line {
-        bytes: [0; 48],
-        len: 0,
-    }
-}
-
-fn refused() -> Line
-    ensures { result ≡ line_of (codes "refused") }
-{
-    let mut bytes = [0; 48];
-    bytes[0..7].copy_from_slice(b"refused");
-    Line { bytes, len: 7 }
-}
-
-// The last decimal digit.
-fn digit(n: u64) -> u8
-    ensures { result ≡ 48 + n % 10 }
-{
-    b'0' + (n % 10) as u8
+    Line::new()
+        .with_bytes(b"refused ")
+        .with_number(fault.number())
+        .with_bytes(b" at ")
+        .with_number(place)
+        .with_bytes(b"\n")
 }
 
 impl Line {
-    fn put(mut self, byte: u8) -> Line
-        requires { self.len < 48 }
-        ensures { result ≡ put_into self byte }
+    // The line with no text.
+    pub fn new() -> Line
+        ensures { result ≡ line_of [] }
     {
-        self.bytes[self.len] = byte;
-        self.len += 1;
-        self
-    }
-
-    // A full line takes no more.
-    fn push(self, byte: u8) -> Line
-        ensures { (text : List ℕ) → self ≡ line_of text → length text < 48 → result ≡ line_of (text ++ (byte ∷ [])) }
-    {
-        if self.len < ROOM {
-            self.put(byte)
-        } else {
-            self
+        Line {
+            bytes: [0; ROOM],
+            len: 0,
         }
     }
 
-    fn push_decimal(self, n: u64) -> Line
-        ensures { (text : List ℕ) → self ≡ line_of text → length text + length (decimal n) ≤ 48 → result ≡ line_of (text ++ decimal n) }
+    // The text, without the zeros behind it.
+    pub fn text(&self) -> &[u8]
+        ensures { result.now ≡ take self.now.len self.now.bytes }
     {
-        let front = if n < 10 {
-            self
-        } else {
-            self.push_decimal(n / 10)
-        };
-        front.push(digit(n))
+        &self.bytes[..self.len.min(ROOM)]
     }
 
-    fn push_spaced(self, n: u64) -> Line
-        ensures { (text : List ℕ) → self ≡ line_of text → length text < 48 → length (text ++ space) + length (decimal n) ≤ 48 → result ≡ line_of (text ++ space ++ decimal n) }
+    // More bytes behind the text.
+    fn with_bytes(mut self, more: &[u8]) -> Line
+        requires { self.len + length more.now ≤ 48 }
+        ensures len { result.len ≡ self.len + length more.now }
+        ensures text { (text : List ℕ) → self ≡ line_of text → result ≡ line_of (text ++ more.now) }
     {
-        self.push(b' ').push_decimal(n)
+        let start = self.len;
+        let end = start + more.len();
+        self.bytes[start..end].copy_from_slice(more);
+        self.len = end;
+        self
+    }
+
+    // A number behind the text, in decimal.
+    fn with_number<I: Integer>(self, n: I) -> Line
+        requires { self.len + I.MAX_STR_LEN ≤ 48 }
+        ensures len { result.len ≤ self.len + I.MAX_STR_LEN }
+        ensures text { (text : List ℕ) → self ≡ line_of text → result ≡ line_of (text ++ I.text n) }
+    {
+        self.with_bytes(Buffer::new().format(n).as_bytes())
     }
 }

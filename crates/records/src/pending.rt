@@ -1,19 +1,79 @@
-ghost use Rattle.std.specs.Prelude.{◌≡◌, ◌≤◌, length};
+ghost use Rattle.std.specs.Prelude.{◌≡◌, ◌≤◌, [], length};
+ghost use Rattle.records.specs.declared.faults.RecordFault.TheVariants.{TooManyPredicates, TooManyGoals};
+ghost use Rattle.records.specs.Pending.{predicates_of, goals_of, with_one, if_room};
 
-mod calls;
-
+use crate::faults::RecordFault;
 use crate::record::Statement;
+use arrayvec::ArrayVec;
+
+// The most predicates and goals that may wait for one question.
+const MOST_PREDICATES: usize = 16;
+
+const MOST_GOALS: usize = 8;
 
 // The predicates and goals that wait for the next question, in the order in which they came.
-// The lengths of the arrays are stated since a proof does not see them through a reference.
 #[derive(Drop)]
 pub struct Pending {
-    predicates: [Statement; 16],
-    predicate_count: usize,
-    goals: [Statement; 8],
-    goal_count: usize,
-    ghost predicate_places: { length predicates ≡ 16 },
-    ghost few_predicates: { predicate_count ≤ 16 },
-    ghost goal_places: { length goals ≡ 8 },
-    ghost few_goals: { goal_count ≤ 8 },
+    predicates: ArrayVec<Statement, MOST_PREDICATES>,
+    goals: ArrayVec<Statement, MOST_GOALS>,
+}
+
+impl Pending {
+    // Nothing waits.
+    pub fn new() -> Pending
+        ensures predicates { predicates_of result ≡ [] }
+        ensures goals { goals_of result ≡ [] }
+    {
+        Pending {
+            predicates: ArrayVec::new(),
+            goals: ArrayVec::new(),
+        }
+    }
+
+    // One more predicate, unless as many wait as may.
+    pub fn add_predicate(&mut self, statement: Statement) -> Result<(), RecordFault>
+        ensures answer { result ≡ if_room 16 TooManyPredicates (predicates_of self.old) }
+        ensures predicates { predicates_of self.new ≡ with_one 16 (predicates_of self.old) statement }
+        ensures goals { goals_of self.new ≡ goals_of self.old }
+    {
+        self.predicates
+            .try_push(statement)
+            .or(Err(RecordFault::TooManyPredicates))
+    }
+
+    // One more goal, unless as many wait as may.
+    pub fn add_goal(&mut self, statement: Statement) -> Result<(), RecordFault>
+        ensures answer { result ≡ if_room 8 TooManyGoals (goals_of self.old) }
+        ensures predicates { predicates_of self.new ≡ predicates_of self.old }
+        ensures goals { goals_of self.new ≡ with_one 8 (goals_of self.old) statement }
+    {
+        self.goals
+            .try_push(statement)
+            .or(Err(RecordFault::TooManyGoals))
+    }
+
+    // Lets go of all that waits.
+    pub fn clear(&mut self)
+        ensures predicates { predicates_of self.new ≡ [] }
+        ensures goals { goals_of self.new ≡ [] }
+    {
+        self.predicates.clear();
+        self.goals.clear();
+    }
+
+    // The predicates that wait.
+    pub fn predicates(&self) -> &[Statement]
+        ensures these { result.now ≡ predicates_of self.now }
+        ensures few { length result.now ≤ 16 }
+    {
+        self.predicates.as_slice()
+    }
+
+    // The goals that wait.
+    pub fn goals(&self) -> &[Statement]
+        ensures these { result.now ≡ goals_of self.now }
+        ensures few { length result.now ≤ 8 }
+    {
+        self.goals.as_slice()
+    }
 }

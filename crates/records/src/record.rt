@@ -1,11 +1,12 @@
-ghost use Rattle.std.specs.Prelude.{◌≡◌, ◌≤◌, length, drop};
-ghost use Rattle.records.specs.Records.{zeros as zerosOf, if_zeros, signed, symbol_of, relation_of, term_of, statement_of, theory_of, eight_of, record_of};
+ghost use Rattle.std.specs.Prelude.{◌≡◌};
+ghost use Rattle.records.specs.Records.{zeros as zeros_of, if_zeros as with_zeros, relation_of, term_of, statement_of, theory_of, eight_of, record_of};
 
 use crate::faults::RecordFault;
 
 // The relation of a predicate or a goal, by its letter: `=`, `!`, `L` or `<`.
-#[derive(Clone, Copy)]
+#[derive(Clone, Copy, Default)]
 pub enum Relation {
+    #[default]
     Equal,
     Different,
     AtMost,
@@ -20,7 +21,7 @@ pub enum TheoryName {
 }
 
 // A predicate or a goal as it was written, before a theory has looked at it.
-#[derive(Clone, Copy)]
+#[derive(Clone, Copy, Default)]
 pub struct Statement {
     pub relation: Relation,
     pub left: u8,
@@ -50,110 +51,104 @@ const RECORD: usize = 8;
 pub fn read(bytes: &[u8]) -> Result<Record, RecordFault>
     ensures { result ≡ record_of bytes.now }
 {
-    if bytes.len() < RECORD {
-        return Err(RecordFault::Cut);
-    }
-    read_eight(&bytes[0..RECORD])
+    let eight = bytes.first_chunk::<RECORD>().ok_or(RecordFault::Cut)?;
+    Record::try_from(*eight)
 }
 
-fn read_eight(bytes: &[u8]) -> Result<Record, RecordFault>
-    requires { length bytes.now ≡ 8 }
-    ensures { result ≡ eight_of bytes.now }
-{
-    match bytes[0] {
-        b'T' => read_term(bytes),
-        b'P' => Ok(Record::Predicate(read_statement(bytes)?)),
-        b'E' => Ok(Record::Goal(read_statement(bytes)?)),
-        b'A' => Ok(Record::Question(read_theory(bytes)?)),
-        b'W' => Ok(Record::Abstraction(read_theory(bytes)?)),
-        _ => Err(RecordFault::UnknownLetter),
+// What eight bytes say, by the letter in the first.
+impl TryFrom<[u8; RECORD]> for Record {
+    type Error = RecordFault;
+
+    ghost try_from_gives = { λ bytes read. read ≡ eight_of bytes };
+
+    fn try_from(bytes: [u8; RECORD]) -> Result<Record, RecordFault> {
+        match bytes {
+            [b'T', ..] => read_term(bytes),
+            [b'P', ..] => Ok(Record::Predicate(bytes.try_into()?)),
+            [b'E', ..] => Ok(Record::Goal(bytes.try_into()?)),
+            [b'A', ..] => Ok(Record::Question(bytes.try_into()?)),
+            [b'W', ..] => Ok(Record::Abstraction(bytes.try_into()?)),
+            _ => Err(RecordFault::UnknownLetter),
+        }
     }
 }
 
-fn read_term(bytes: &[u8]) -> Result<Record, RecordFault>
-    requires { length bytes.now ≡ 8 }
-    ensures { result ≡ term_of bytes.now }
+// A term: its argument count, its symbol with the high byte first, and its arguments.
+fn read_term(bytes: [u8; RECORD]) -> Result<Record, RecordFault>
+    ensures { result ≡ term_of bytes }
 {
-    let symbol = read_symbol(bytes[2], bytes[3]);
+    let [_, arity, high, low, left, right, ..] = bytes;
     let term = Record::Term {
-        arity: bytes[1],
-        symbol,
-        left: bytes[4],
-        right: bytes[5],
+        arity,
+        symbol: u16::from_be_bytes([high, low]),
+        left,
+        right,
     };
-    if_zeros(bytes, 6, term)
+    if_zeros(&bytes[6..], term)
 }
 
-fn read_symbol(high: u8, low: u8) -> u16
-    ensures { result ≡ symbol_of high low }
-{
-    high as u16 * 256 + low as u16
-}
+// A predicate or a goal: its relation, its sides and its constant in two's complement.
+impl TryFrom<[u8; RECORD]> for Statement {
+    type Error = RecordFault;
 
-fn read_statement(bytes: &[u8]) -> Result<Statement, RecordFault>
-    requires { length bytes.now ≡ 8 }
-    ensures { result ≡ statement_of bytes.now }
-{
-    let relation = read_relation(bytes[1])?;
-    let constant = read_signed(bytes[4]);
-    let statement = Statement {
-        relation,
-        left: bytes[2],
-        right: bytes[3],
-        constant,
-    };
-    if_zeros(bytes, 5, statement)
-}
+    ghost try_from_gives = { λ bytes read. read ≡ statement_of bytes };
 
-fn read_signed(byte: u8) -> i8
-    ensures { result ≡ signed byte }
-{
-    byte.cast_signed()
-}
-
-fn read_relation(letter: u8) -> Result<Relation, RecordFault>
-    ensures { result ≡ relation_of letter }
-{
-    match letter {
-        b'=' => Ok(Relation::Equal),
-        b'!' => Ok(Relation::Different),
-        b'L' => Ok(Relation::AtMost),
-        b'<' => Ok(Relation::Below),
-        _ => Err(RecordFault::UnknownLetter),
+    fn try_from(bytes: [u8; RECORD]) -> Result<Statement, RecordFault> {
+        let [_, letter, left, right, constant, ..] = bytes;
+        let statement = Statement {
+            relation: letter.try_into()?,
+            left,
+            right,
+            constant: constant.cast_signed(),
+        };
+        if_zeros(&bytes[5..], statement)
     }
 }
 
-fn read_theory(bytes: &[u8]) -> Result<TheoryName, RecordFault>
-    requires { length bytes.now ≡ 8 }
-    ensures { result ≡ theory_of bytes.now }
-{
-    match bytes[1] {
-        b'U' => if_zeros(bytes, 2, TheoryName::Terms),
-        b'D' => if_zeros(bytes, 3, TheoryName::Differences(bytes[2])),
-        _ => Err(RecordFault::UnknownLetter),
+// The relation that a letter names.
+impl TryFrom<u8> for Relation {
+    type Error = RecordFault;
+
+    ghost try_from_gives = { λ letter read. read ≡ relation_of letter };
+
+    fn try_from(letter: u8) -> Result<Relation, RecordFault> {
+        match letter {
+            b'=' => Ok(Relation::Equal),
+            b'!' => Ok(Relation::Different),
+            b'L' => Ok(Relation::AtMost),
+            b'<' => Ok(Relation::Below),
+            _ => Err(RecordFault::UnknownLetter),
+        }
     }
 }
 
-// What was read, if the bytes behind it are zero.
-fn if_zeros<X: Copy>(bytes: &[u8], from: usize, value: X) -> Result<X, RecordFault>
-    requires { from ≤ length bytes.now }
-    ensures { result ≡ if_zeros (drop from bytes.now) value }
-{
-    if zeros(&bytes[from..]) {
-        Ok(value)
-    } else {
-        Err(RecordFault::NotZero)
+// The theory that a letter names, for differences with the number of variables behind it.
+impl TryFrom<[u8; RECORD]> for TheoryName {
+    type Error = RecordFault;
+
+    ghost try_from_gives = { λ bytes read. read ≡ theory_of bytes };
+
+    fn try_from(bytes: [u8; RECORD]) -> Result<TheoryName, RecordFault> {
+        match bytes {
+            [_, b'U', ..] => if_zeros(&bytes[2..], TheoryName::Terms),
+            [_, b'D', variables, ..] => {
+                if_zeros(&bytes[3..], TheoryName::Differences(variables))
+            }
+            _ => Err(RecordFault::UnknownLetter),
+        }
     }
+}
+
+// What was read, if the bytes that it does not use are zero.
+fn if_zeros<X: Drop>(unused: &[u8], value: X) -> Result<X, RecordFault>
+    ensures { result ≡ with_zeros unused.now value }
+{
+    zeros(unused).then_some(value).ok_or(RecordFault::NotZero)
 }
 
 // Whether every byte is zero.
 fn zeros(bytes: &[u8]) -> bool
-    ensures { result ≡ zerosOf bytes.now }
+    ensures { result ≡ zeros_of bytes.now }
 {
-    for b in bytes {
-        if *b != 0 {
-            return false;
-        }
-    }
-    true
+    bytes.iter().all(|byte| *byte == 0)
 }
