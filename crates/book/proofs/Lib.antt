@@ -1,12 +1,7 @@
 pub mod Recalling
 pub mod PutRows
-pub mod Holds
-pub mod Carries
 pub mod Opposites
-pub mod Passing
 pub mod Pairs
 pub mod Failing
-pub mod Meeting
-pub mod Settling
-pub mod Answering
+pub mod Grown
 pub mod Stepping

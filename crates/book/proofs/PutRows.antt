@@ -1,10 +1,11 @@
 -- What putting a row into a book's register makes of the set whose halves the row holds.
-use Rattle.std.proofs.Common.{◌≡◌, ℕ, ◌+◌, ◌<◌, ◌≤◌, min, ◌≢◌, List, length, get_or, Some, None, Ok, Err, Option, sym, ◌∙◌, inl, inr, arith}
+use Rattle.std.proofs.Common.{◌≡◌, ℕ, ◌+◌, ◌<◌, ◌≤◌, min, ◌≢◌, List, length, get_or, Some, None, Ok, Err, Option, sym, ◌∙◌, subst, inl, inr, arith}
 use Rattle.std.proofs.lemmas.List.{get_or_default}
 use Rattle.register.specs.Rows.{Puts, Absent as AbsentRow}
+use Rattle.register.specs.Chains.{Put}
 use Rattle.diagrams.specs.declared.Row.{Row}
 use Rattle.diagrams.specs.declared.NoRoom.{NoRoom}
-use Rattle.diagrams.specs.Diagram.{blank, row_at}
+use Rattle.diagrams.specs.Diagram.{blank, row_at, row_hash}
 use Rattle.diagrams.specs.Books.{KeptBook, capacity}
 use Rattle.diagrams.specs.Applying.{row_with, Absent, Extends, Fit, Makes}
 use Rattle.diagrams.proofs.MakingRows.{extends_same, made_found, made_none, extends_made, made_new}
@@ -35,3 +36,8 @@ module _ (rows : List Row) (count : ℕ) (next : List ℕ) (p a b : ℕ) (kept :
 pub place_small : (rows : List Row) (count : ℕ) (next : List ℕ) (row : Row) (rows' : List Row) (count' i : ℕ) → KeptBook rows count → Puts (min 65534 (min (length rows) (length next))) rows count row rows' count' (Some i) → i + 2 < 65536
 place_small rows count next row rows' count' i kept (inl (lt, at, er, ec)) = omega (arith, lt, kept.sound.within)
 place_small rows count next row rows' count' i kept (inr (e, lt, new, er, ec)) = omega (arith, e, lt)
+
+-- what is put is the row with the halves
+pub putting : {rows : List Row} {count : ℕ} {heads next : List ℕ} {row w : Row} {rows' : List Row} {count' : ℕ} {heads' next' : List ℕ} {r : Option ℕ}
+    → Put row_hash 65534 rows count heads next row rows' count' heads' next' r → row ≡ w → Puts (min 65534 (min (length rows) (length next))) rows count w rows' count' r
+putting {rows} {count} {heads} {next} {row} {w} {rows'} {count'} {heads'} {next'} {r} p e = subst (λ z. Puts (min 65534 (min (length rows) (length next))) rows count z rows' count' r) e p.puts

@@ -65,7 +65,7 @@ recalled op rows count sound table a b n ha hb m (k, e) =
     plain rows count sound (union_or_intersection op rows a b) n w.result (λ c. w.reads c ∙ in_order op rows a b c)
 
 -- what was just computed is a right entry
-right_entry : (op : Operation) (rows : List Row) (count : ℕ) (rows' : List Row) (count' a b n : ℕ) → Sound rows count → a < count + 2 → b < count + 2
+pub right_entry : (op : Operation) (rows : List Row) (count : ℕ) (rows' : List Row) (count' a b n : ℕ) → Sound rows count → a < count + 2 → b < count + 2
     → Adds rows count rows' count' (union_or_intersection op rows a b) n → Right op rows' count' (entry (min a b) (max a b) n)
 right_entry op rows count rows' count' a b n sound ha hb t = record {
   left = omega (arith, ha, hb, t.more);

@@ -7,7 +7,6 @@
 --   Answered               what a question that is answered leaves, and what its answer says
 --   Asked                  what a question leaves: refused by a check, answered, or refused for want of rows
 --   Implied                what the full cases of an abstraction's answer say
---   Holding                the numbers in the front part of a work slice are held by a book
 use Rattle.std.specs.Prelude.{◌≡◌, ℕ, ◌+◌, ◌*◌, ◌^◌, ◌<◌, Bool, true, cond, not, ◌&&◌, ◌↔◌, List, [], ◌∷◌, ◌++◌, length, drop, replicate, Some, None, Ok, Err, Option, Result, nat_lt, slice_index}
 use Rattle.theory.specs.Theory.{Meaning}
 use Rattle.theory.specs.Rounds.{Question, Derives, Impossible, RoundCount}
@@ -40,9 +39,6 @@ first_fault facts limit predicates goals work =
 abbrev pub work_after : ℕ → Option QuestionFault → List ℕ → List ℕ
 work_after facts (Some fault) work = work
 work_after facts None work = replicate (2 * (facts + 1)) 0 ++ drop (2 * (facts + 1)) work
-
-abbrev pub Holding : List ℕ → ℕ → ℕ → Type 0
-Holding numbers used count = (k : ℕ) → k < used → slice_index numbers k < count + 2
 
 -- n is the number of exactly the choices from which the rules derive the contradiction, which are the impossible ones, and
 -- k the most rounds that one of them gained in; the rows of exactly the working sets were added

@@ -1,6 +1,7 @@
 -- The memory that a call lends to its unions and intersections: an index of the rows in use, and results computed before.
 --
 --   entry_at   an entry of a table of computed results; an empty one has zeros
+--   AllEmpty   a table without entries
 --   Recalls    a table has an entry with two numbers and a result
 --   Writes     such an entry takes the place of another, or the table has no place
 --   Notes      an entry is written into the table of its operation
@@ -20,6 +21,9 @@ entry a b n = record { left = a; right = b; result = n }
 
 abbrev pub entry_at : List Entry → ℕ → Entry
 entry_at table k = slice_index_or table k (entry 0 0 0)
+
+abbrev pub AllEmpty : List Entry → Type 0
+AllEmpty table = (k : ℕ) → entry_at table k ≡ entry 0 0 0
 
 abbrev pub Recalls : List Entry → ℕ → ℕ → ℕ → Type 0
 Recalls table a b n = (k : ℕ) × (entry_at table k ≡ entry a b n)

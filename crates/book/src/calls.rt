@@ -1,21 +1,15 @@
-ghost use Rattle.std.specs.Prelude.{◌≡◌, ◌+◌, ◌/◌, ◌%◌, ◌^◌, ◌<◌, ◌≤◌, ◌≢◌};
+ghost use Rattle.std.specs.Prelude.{◌≡◌, ◌+◌, ◌/◌, ◌%◌, ◌^◌, ◌<◌, ◌≤◌, ◌≢◌, IsTrue};
 ghost use Rattle.register.specs.Rows.{Cleared};
 ghost use Rattle.diagrams.specs.Diagram.{Sound, CanonicalRows, blank, member};
 ghost use Rattle.diagrams.specs.Books.{opening, book_of};
 ghost use Rattle.book.specs.Calls.{Reads};
 ghost use Rattle.book.specs.Runs.{Begins, GoesOn, reading};
 
-use crate::apply::MOST_ROWS;
+use crate::manager::MOST_ROWS;
 use crate::book::Book;
 use crate::faults::BookFault;
 use diagrams::Row;
 use register::Register;
-
-pub const BLANK: Row = Row {
-    position: 0,
-    without: 0,
-    with: 0,
-};
 
 // The rows that a book uses, blank.
 fn cleared(rows: &mut [Row]) -> Register<'_, Row>
@@ -23,7 +17,7 @@ fn cleared(rows: &mut [Row]) -> Register<'_, Row>
     ensures cleared { Cleared rows.old 0 65534 blank result.rows.now }
     ensures none { result.count ≡ 0 }
 {
-    Register::open(rows, MOST_ROWS, BLANK)
+    Register::open(rows, MOST_ROWS, Row::default())
 }
 
 // The rows that a refused call has put are blank again.
@@ -31,7 +25,7 @@ pub(crate) fn give_back(register: &mut Register<'_, Row>, before: u16)
     ensures held { register.new.rows.ghost_name ≡ register.old.rows.ghost_name }
     ensures cleared { before ≤ register.old.count → Cleared register.old.rows.now before register.old.count blank register.new.rows.now × (register.new.count ≡ before) }
 {
-    register.roll_back(before, BLANK);
+    register.roll_back(before, Row::default());
 }
 
 // Where a choice goes on from a row.
@@ -75,13 +69,21 @@ impl<'a> Book<'a> {
         self.lent.count
     }
 
+    // Whether the book holds a number.
+    pub(crate) fn holds(&self, number: u16) -> bool
+        ensures yes { IsTrue result → number < self.now.lent.count + 2 }
+        ensures not { (IsTrue result → ⊥) → self.now.lent.count + 2 ≤ number }
+    {
+        number < 2 || number - 2 < self.lent.count
+    }
+
     // Whether a choice belongs to a number.
     pub fn read(&self, number: u16, choice: u16) -> Result<bool, BookFault>
         ensures reads { Reads self.now.lent.rows.now self.now.lent.count number choice result }
         ensures canonical { CanonicalRows self.now.lent.rows.now self.now.lent.count }
         ensures continues { GoesOn (book_of self.now.lent.rows.now self.now.lent.count) (reading number choice) result (book_of self.now.lent.rows.now self.now.lent.count) }
     {
-        if number as u32 >= self.lent.count as u32 + 2 {
+        if !self.holds(number) {
             return Err(BookFault::NotHeld);
         }
         Ok(follow(self.lent.rows, self.lent.count, number, choice))

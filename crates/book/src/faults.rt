@@ -1,45 +1,37 @@
-ghost use Rattle.std.specs.Prelude.{◌≡◌};
 ghost use Rattle.book.specs.Faults.{book_fault_number};
 ghost use Rattle.book.specs.Questions.{question_fault_number};
 
-// Why a reading, or putting two numbers together, was refused.
-#[derive(Clone, Copy)]
+use theory::Refusal;
+
+// Why a reading or a join was refused.
+#[derive(Clone, Copy, PartialEq, Eq)]
 pub enum BookFault {
-    Full,
-    NotHeld,
+    Full = 13,
+    NotHeld = 14,
 }
 
-impl BookFault {
-    pub fn number(&self) -> u8
-        ensures { result ≡ book_fault_number self.now }
-    {
-        match self {
-            BookFault::Full => 13,
-            BookFault::NotHeld => 14,
-        }
+impl Refusal for BookFault {
+    ghost number = { book_fault_number };
+
+    fn number(self) -> u8 {
+        self as u8
     }
 }
 
 // Why a question or an abstraction was refused.
-#[derive(Clone, Copy)]
+#[derive(Clone, Copy, PartialEq, Eq)]
 pub enum QuestionFault {
-    TooManyPredicates,
-    TooManyGoals,
-    NoFact,
-    ShortWork,
-    Full,
+    TooManyPredicates = 9,
+    TooManyGoals = 10,
+    NoFact = 11,
+    ShortWork = 12,
+    Full = 13,
 }
 
-impl QuestionFault {
-    pub fn number(&self) -> u8
-        ensures { result ≡ question_fault_number self.now }
-    {
-        match self {
-            QuestionFault::TooManyPredicates => 9,
-            QuestionFault::TooManyGoals => 10,
-            QuestionFault::NoFact => 11,
-            QuestionFault::ShortWork => 12,
-            QuestionFault::Full => 13,
-        }
+impl Refusal for QuestionFault {
+    ghost number = { question_fault_number };
+
+    fn number(self) -> u8 {
+        self as u8
     }
 }

@@ -1,16 +1,18 @@
 #![tactic(auto)]
 
-mod apply;
 mod book;
 mod calls;
-mod checks;
 mod faults;
 mod fixpoint;
 mod gather;
+mod inquiry;
+mod joins;
+mod manager;
 mod questions;
 mod scratch;
-mod together;
+mod shortcuts;
 mod work;
 
 pub use book::Book;
 pub use faults::{BookFault, QuestionFault};
+pub use inquiry::Inquiry;

@@ -1,76 +1,68 @@
-ghost use Rattle.std.specs.Prelude.{◌≡◌, ℕ, ◌+◌, ◌*◌, ◌<◌, ◌≤◌, length, take, None, slice_index};
+ghost use Rattle.std.specs.Prelude.{◌≡◌, ℕ, ◌+◌, ◌*◌, ◌<◌, ◌≤◌, ◌++◌, drop, length, replicate, take, None, slice_index};
 ghost use Rattle.theory.specs.Abstraction.{ask, or_0, with_opposites};
 ghost use Rattle.theory.specs.Means.{meaning};
 ghost use Rattle.theory.specs.Rounds.{Proper};
-ghost use Rattle.diagrams.specs.Applying.{Extends};
 ghost use Rattle.diagrams.specs.Books.{KeptBook, book_of};
-ghost use Rattle.book.specs.Work.{ZeroBelow, SameFrom};
+ghost use Rattle.book.specs.Growing.{Enlarged};
 ghost use Rattle.book.specs.Questions.{first_fault, work_after, Asked, Implied};
 ghost use Rattle.book.specs.Runs.{GoesOn, question, abstraction};
 ghost use Rattle.book.specs.Steps.{Saturates};
 
 use crate::book::Book;
 use crate::calls::give_back;
-use crate::checks::first_fault;
 use crate::faults::QuestionFault;
 use crate::fixpoint::within;
+use crate::inquiry::Inquiry;
 use diagrams::{NoRoom, Row};
 use register::Register;
 use theory::Theory;
 
+// A book of more rows has the largest index.
+const MANY_ROWS: usize = 4096;
+
 // Chooses the sizes of a question's tables: light ones for few places and predicates, and an index as large as the book.
 fn sized<T: Theory>(
-    theory: &T,
     register: &mut Register<'_, Row>,
-    predicates: &[u16],
-    goals: &[u16],
+    inquiry: &Inquiry<'_, T>,
     numbers: &mut [u32],
 ) -> Result<(u16, u16), NoRoom>
     requires kept { KeptBook register.old.rows.now register.old.count }
-    requires used { 2 * (T.Theory.facts theory.now + 1) ≤ length numbers.old }
-    requires few { length predicates.now ≤ 16 }
-    requires facts { (k : ℕ) → k < length predicates.now → slice_index predicates.now k < T.Theory.facts theory.now }
-    ensures register { register.new.rows.ghost_name ≡ register.old.rows.ghost_name }
-    ensures extends { Extends register.old.rows.now register.old.count register.new.rows.now register.new.count }
-    ensures zero { ZeroBelow numbers.new (2 * (T.Theory.facts theory.now + 1)) }
-    ensures rest { SameFrom (2 * (T.Theory.facts theory.now + 1)) numbers.old numbers.new }
-    ensures saturates { Saturates (meaning T.Theory theory.now) (ask predicates.now goals.now) register.old.rows.now register.old.count register.new.rows.now register.new.count result }
+    requires used { 2 * (T.Theory.facts inquiry.now.theory.now + 1) ≤ length numbers.old }
+    requires few { length inquiry.now.predicates.now ≤ 16 }
+    requires facts { (k : ℕ) → k < length inquiry.now.predicates.now → slice_index inquiry.now.predicates.now k < T.Theory.facts inquiry.now.theory.now }
+    ensures enlarged { Enlarged register.old register.new }
+    ensures work { numbers.new ≡ replicate (2 * (T.Theory.facts inquiry.now.theory.now + 1)) 0 ++ drop (2 * (T.Theory.facts inquiry.now.theory.now + 1)) numbers.old }
+    ensures saturates { Saturates (meaning T.Theory inquiry.now.theory.now) (ask inquiry.now.predicates.now inquiry.now.goals.now) register.old register.new result }
 {
-    let rows = register.rows.len();
-    if rows > 4096 {
-        return within::<T, 32768, 65536, 16384>(theory, register, predicates, goals, numbers);
+    if register.rows.len() > MANY_ROWS {
+        return within::<T, 32768, 65536, 16384>(register, inquiry, numbers);
     }
-    if theory.places() > 16384 || predicates.len() > 10 {
-        return within::<T, 8192, 4096, 16384>(theory, register, predicates, goals, numbers);
+    if inquiry.theory.places() > 16384 || inquiry.predicates.len() > 10 {
+        return within::<T, 8192, 4096, 16384>(register, inquiry, numbers);
     }
-    within::<T, 4096, 4096, 2048>(theory, register, predicates, goals, numbers)
+    within::<T, 4096, 4096, 2048>(register, inquiry, numbers)
 }
 
 // A question that has passed its checks. Rows that do not fit are all given back.
 fn answer<T: Theory>(
-    theory: &T,
     register: &mut Register<'_, Row>,
-    predicates: &[u16],
-    goals: &[u16],
+    inquiry: &Inquiry<'_, T>,
     numbers: &mut [u32],
 ) -> Result<(u16, u16), QuestionFault>
     requires kept { KeptBook register.old.rows.now register.old.count }
-    requires used { 2 * (T.Theory.facts theory.now + 1) ≤ length numbers.old }
-    requires proper { Proper (meaning T.Theory theory.now) (ask predicates.now goals.now) }
-    ensures register { register.new.rows.ghost_name ≡ register.old.rows.ghost_name }
+    requires used { 2 * (T.Theory.facts inquiry.now.theory.now + 1) ≤ length numbers.old }
+    requires proper { Proper (meaning T.Theory inquiry.now.theory.now) (ask inquiry.now.predicates.now inquiry.now.goals.now) }
+    ensures held { register.new.rows.ghost_name ≡ register.old.rows.ghost_name }
     ensures kept { KeptBook register.new.rows.now register.new.count }
-    ensures asked { Asked (meaning T.Theory theory.now) (ask predicates.now goals.now) None (book_of register.old.rows.now register.old.count) (book_of register.new.rows.now register.new.count) result }
-    ensures zero { ZeroBelow numbers.new (2 * (T.Theory.facts theory.now + 1)) }
-    ensures rest { SameFrom (2 * (T.Theory.facts theory.now + 1)) numbers.old numbers.new }
+    ensures asked { Asked (meaning T.Theory inquiry.now.theory.now) (ask inquiry.now.predicates.now inquiry.now.goals.now) None (book_of register.old.rows.now register.old.count) (book_of register.new.rows.now register.new.count) result }
+    ensures work { numbers.new ≡ replicate (2 * (T.Theory.facts inquiry.now.theory.now + 1)) 0 ++ drop (2 * (T.Theory.facts inquiry.now.theory.now + 1)) numbers.old }
 {
     let before = register.count;
-    match sized(theory, register, predicates, goals, numbers) {
-        Ok(pair) => Ok(pair),
-        Err(_) => {
-            give_back(register, before);
-            Err(QuestionFault::Full)
-        }
-    }
+    let Ok(pair) = sized(register, inquiry, numbers) else {
+        give_back(register, before);
+        return Err(QuestionFault::Full);
+    };
+    Ok(pair)
 }
 
 impl Book<'_> {
@@ -78,20 +70,16 @@ impl Book<'_> {
     // the most rounds that one of the choices gained in.
     pub fn question<T: Theory>(
         &mut self,
-        theory: &T,
-        predicates: &[u16],
-        goals: &[u16],
+        inquiry: &Inquiry<'_, T>,
         work: &mut [u32],
     ) -> Result<(u16, u16), QuestionFault>
         ensures held { self.new.lent.rows.ghost_name ≡ self.old.lent.rows.ghost_name }
-        ensures asked { Asked (meaning T.Theory theory.now) (ask predicates.now goals.now) (first_fault (T.Theory.facts theory.now) 16 predicates.now goals.now (length work.old)) (book_of self.old.lent.rows.now self.old.lent.count) (book_of self.new.lent.rows.now self.new.lent.count) result }
-        ensures continues { GoesOn (book_of self.old.lent.rows.now self.old.lent.count) (question (meaning T.Theory theory.now) predicates.now goals.now (length work.old)) result (book_of self.new.lent.rows.now self.new.lent.count) }
-        ensures work { work.new ≡ work_after (T.Theory.facts theory.now) (first_fault (T.Theory.facts theory.now) 16 predicates.now goals.now (length work.old)) work.old }
+        ensures asked { Asked (meaning T.Theory inquiry.now.theory.now) (ask inquiry.now.predicates.now inquiry.now.goals.now) (first_fault (T.Theory.facts inquiry.now.theory.now) 16 inquiry.now.predicates.now inquiry.now.goals.now (length work.old)) (book_of self.old.lent.rows.now self.old.lent.count) (book_of self.new.lent.rows.now self.new.lent.count) result }
+        ensures continues { GoesOn (book_of self.old.lent.rows.now self.old.lent.count) (question (meaning T.Theory inquiry.now.theory.now) inquiry.now.predicates.now inquiry.now.goals.now (length work.old)) result (book_of self.new.lent.rows.now self.new.lent.count) }
+        ensures work { work.new ≡ work_after (T.Theory.facts inquiry.now.theory.now) (first_fault (T.Theory.facts inquiry.now.theory.now) 16 inquiry.now.predicates.now inquiry.now.goals.now (length work.old)) work.old }
     {
-        if let Some(fault) = first_fault(theory.facts(), 16, predicates, goals, work.len()) {
-            return Err(fault);
-        }
-        answer(theory, &mut self.lent, predicates, goals, work)
+        inquiry.check(16, work.len())?;
+        answer(&mut self.lent, inquiry, work)
     }
 }
 
@@ -122,27 +110,22 @@ impl Book<'_> {
     // which chooses one of each pair, exactly when the case implies that some goal is true.
     pub fn abstraction<T: Theory>(
         &mut self,
-        theory: &T,
-        predicates: &[u16],
-        goals: &[u16],
+        inquiry: &Inquiry<'_, T>,
         work: &mut [u32],
     ) -> Result<(u16, u16), QuestionFault>
         ensures held { self.new.lent.rows.ghost_name ≡ self.old.lent.rows.ghost_name }
-        ensures asked { Asked (meaning T.Theory theory.now) (ask (with_opposites (meaning T.Theory theory.now) predicates.now) goals.now) (first_fault (T.Theory.facts theory.now) 8 predicates.now goals.now (length work.old)) (book_of self.old.lent.rows.now self.old.lent.count) (book_of self.new.lent.rows.now self.new.lent.count) result }
-        ensures implied { Implied (meaning T.Theory theory.now) predicates.now goals.now (first_fault (T.Theory.facts theory.now) 8 predicates.now goals.now (length work.old)) (book_of self.new.lent.rows.now self.new.lent.count) result }
-        ensures continues { GoesOn (book_of self.old.lent.rows.now self.old.lent.count) (abstraction (meaning T.Theory theory.now) predicates.now goals.now (length work.old)) result (book_of self.new.lent.rows.now self.new.lent.count) }
-        ensures work { work.new ≡ work_after (T.Theory.facts theory.now) (first_fault (T.Theory.facts theory.now) 8 predicates.now goals.now (length work.old)) work.old }
+        ensures asked { Asked (meaning T.Theory inquiry.now.theory.now) (ask (with_opposites (meaning T.Theory inquiry.now.theory.now) inquiry.now.predicates.now) inquiry.now.goals.now) (first_fault (T.Theory.facts inquiry.now.theory.now) 8 inquiry.now.predicates.now inquiry.now.goals.now (length work.old)) (book_of self.old.lent.rows.now self.old.lent.count) (book_of self.new.lent.rows.now self.new.lent.count) result }
+        ensures implied { Implied (meaning T.Theory inquiry.now.theory.now) inquiry.now.predicates.now inquiry.now.goals.now (first_fault (T.Theory.facts inquiry.now.theory.now) 8 inquiry.now.predicates.now inquiry.now.goals.now (length work.old)) (book_of self.new.lent.rows.now self.new.lent.count) result }
+        ensures continues { GoesOn (book_of self.old.lent.rows.now self.old.lent.count) (abstraction (meaning T.Theory inquiry.now.theory.now) inquiry.now.predicates.now inquiry.now.goals.now (length work.old)) result (book_of self.new.lent.rows.now self.new.lent.count) }
+        ensures work { work.new ≡ work_after (T.Theory.facts inquiry.now.theory.now) (first_fault (T.Theory.facts inquiry.now.theory.now) 8 inquiry.now.predicates.now inquiry.now.goals.now (length work.old)) work.old }
     {
-        if let Some(fault) = first_fault(theory.facts(), 8, predicates, goals, work.len()) {
-            return Err(fault);
-        }
-        let pairs = with_opposites(theory, predicates);
-        answer(
-            theory,
-            &mut self.lent,
-            &pairs[0..2 * predicates.len()],
-            goals,
-            work,
-        )
+        inquiry.check(8, work.len())?;
+        let pairs = with_opposites(inquiry.theory, inquiry.predicates);
+        let paired = Inquiry {
+            theory: inquiry.theory,
+            predicates: &pairs[..2 * inquiry.predicates.len()],
+            goals: inquiry.goals,
+        };
+        answer(&mut self.lent, &paired, work)
     }
 }

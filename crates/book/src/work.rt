@@ -1,32 +1,31 @@
-ghost use Rattle.std.specs.Prelude.{◌≤◌, length};
-ghost use Rattle.book.specs.Work.{ZeroBelow, SameFrom};
+ghost use Rattle.std.specs.Prelude.{◌≡◌, ◌-◌, ◌<◌, length, replicate};
 
-// Holds the work slice while a question uses it, and zeroes the used part when it goes, whichever way the question ends.
-// For each fact, and then the contradiction, the first half of the used part has the number of the choices that had it
-// before the round, the second half what it has gathered in the round.
+// Holds the part of the work slice that a question uses, and zeroes it when it goes, whichever way the question ends.
+// Both halves have a slot for each fact, and one behind them for the contradiction: `standing` has the number of the choices
+// that had it before the round, `gathered` of those that have it so far.
 pub struct Work<'a> {
-    pub numbers: &'a mut [u32],
-    pub used: usize,
-    ghost within: { used ≤ length numbers.now },
+    pub standing: &'a mut [u32],
+    pub gathered: &'a mut [u32],
+    ghost some: { 0 < length standing.now },
+    ghost halves: { length gathered.now ≡ length standing.now },
 }
 
-// Zeroes the numbers in front.
-pub(crate) fn wipe(numbers: &mut [u32], used: usize)
-    requires { used ≤ length numbers.old }
-    ensures zero { ZeroBelow numbers.new used }
-    ensures rest { SameFrom used numbers.old numbers.new }
-{
-    for i in 0..used {
-        numbers[i] = 0;
+impl Work<'_> {
+    // The slot of the contradiction.
+    pub(crate) fn contradiction(&self) -> usize
+        ensures { result ≡ length self.now.standing.now - 1 }
+    {
+        self.standing.len() - 1
     }
 }
 
 impl Drop for Work<'_> {
     fn drop(self)
-        ensures zero { ZeroBelow self.exit.0.now self.entry.used }
-        ensures rest { SameFrom self.entry.used self.entry.numbers.now self.exit.0.now }
+        ensures standing { self.exit.0.now ≡ replicate (length self.entry.standing.now) 0 }
+        ensures gathered { self.exit.1.0.now ≡ replicate (length self.entry.gathered.now) 0 }
     {
-        let Work { numbers, used } = self;
-        wipe(numbers, used);
+        let Work { standing, gathered } = self;
+        standing.fill(0);
+        gathered.fill(0);
     }
 }

@@ -15,7 +15,7 @@ use Rattle.diagrams.specs.Diagram.{Choices, RowOf, InUse, Sound, row_at, member}
 use Rattle.diagrams.specs.Making.{Adds}
 use Rattle.diagrams.specs.Books.{capacity, union_or_intersection}
 use Rattle.diagrams.proofs.Kept.{member_kept}
-use Rattle.saturation.specs.Stages.{Family, slot, Known, first_half, second_half, Stands, Half, gathered_from, RoundSet, premises_set, conclusion_set, TooMany, InRound, BothHalves}
+use Rattle.saturation.specs.Stages.{Family, slot, Known, Stands, Half, gathered_from, RoundSet, premises_set, conclusion_set, TooMany, InRound, BothHalves}
 use Rattle.saturation.proofs.Closing.{same_true, same_self}
 use Rattle.saturation.proofs.Saturating.{no_progress, set_made, progress_on, same_progress, too_many_since}
 
@@ -24,8 +24,8 @@ pub stands_later : {rows : List Row} {count : ℕ} {rows' : List Row} {count' : 
 stands_later {rows} {count} {rows'} {count'} sound stay more {n} {s} h = record { held = omega (arith, h.held, more); reads = λ c. member_kept rows rows' count sound stay n c h.held ∙ h.reads c }
 
 pub half_later : {rows : List Row} {count : ℕ} {rows' : List Row} {count' : ℕ} → Sound rows count → ((r : ℕ) → r < count → row_at rows' r ≡ row_at rows r) → count ≤ count'
-    → (facts : ℕ) (at : ℕ → ℕ) (S : Family) → Half facts rows count at S → Half facts rows' count' at S
-half_later sound stay more facts at S h x known = stands_later sound stay more (h x known)
+    → (facts : ℕ) (numbers : List ℕ) (S : Family) → Half facts rows count numbers S → Half facts rows' count' numbers S
+half_later sound stay more facts numbers S h x known = stands_later sound stay more (h x known)
 
 -- the numbers may stand elsewhere, and the sets be named otherwise
 pub stands_same : {rows : List Row} {count : ℕ} {n n' : ℕ} {s s' : Choices} → n' ≡ n → ((c : ℕ) → s c ≡ s' c) → Stands rows count n s → Stands rows count n' s'
@@ -105,16 +105,16 @@ or_false true = refl
 or_false false = refl
 
 -- before the first place
-pub round_begins : (m : Meaning) (S : Family) (rows : List Row) (count : ℕ) (numbers : List ℕ) → Sound rows count → BothHalves m.facts rows count numbers S → InRound m S 0 rows count rows count numbers
-round_begins m S rows count numbers sound h = record {
+pub round_begins : (m : Meaning) (S : Family) (rows : List Row) (count : ℕ) (standing gathered : List ℕ) → Sound rows count → BothHalves m.facts rows count standing gathered S → InRound m S 0 rows count rows count standing gathered
+round_begins m S rows count standing gathered sound h = record {
   olds = h.olds;
   news = λ x known. stands_same refl (λ c. or_false (S c x)) (h.news x known);
   progress = same_progress rows count rows count (λ _. ⊥) (RoundSet m S 0) (λ s. ((λ b. absurd b), λ d. absurd (no_set m S s d))) (no_progress rows count sound);
 }
 
-module _ (m : Meaning) (S : Family) (i : ℕ) {rows₀ : List Row} {count₀ : ℕ} {rows : List Row} {count : ℕ} {numbers : List ℕ} (h : InRound m S i rows₀ count₀ rows count numbers) where
+module _ (m : Meaning) (S : Family) (i : ℕ) {rows₀ : List Row} {count₀ : ℕ} {rows : List Row} {count : ℕ} {standing gathered : List ℕ} (h : InRound m S i rows₀ count₀ rows count standing gathered) where
   -- an empty place
-  pub place_empty : m.rule i ≡ None → InRound m S (suc i) rows₀ count₀ rows count numbers
+  pub place_empty : m.rule i ≡ None → InRound m S (suc i) rows₀ count₀ rows count standing gathered
   place_empty e = record {
     olds = h.olds;
     news = λ x known. stands_same refl (gathered_none m S i e x) (h.news x known);
@@ -132,25 +132,25 @@ module _ (m : Meaning) (S : Family) (i : ℕ) {rows₀ : List Row} {count₀ : �
 
     module _ (names : Names m.facts r) {rows₁ : List Row} {count₁ n₁ : ℕ} (a : Adds rows count rows₁ count₁ together n₁) where
       abbrev at : ℕ
-      at = m.facts + 1 + slot m.facts (conclusion r)
+      at = slot m.facts (conclusion r)
 
       abbrev union : Choices
-      union = union_or_intersection Union rows₁ (get_or numbers at 0) n₁
+      union = union_or_intersection Union rows₁ (get_or gathered at 0) n₁
 
       sound : Sound rows count
       sound = h.progress.sound
 
-      olds₁ : Half m.facts rows₁ count₁ (first_half numbers) S
-      olds₁ = half_later sound a.stay a.more m.facts (first_half numbers) S h.olds
+      olds₁ : Half m.facts rows₁ count₁ standing S
+      olds₁ = half_later sound a.stay a.more m.facts standing S h.olds
 
-      news₁ : Half m.facts rows₁ count₁ (second_half m.facts numbers) (λ c x. gathered_from m S i x c)
-      news₁ = half_later sound a.stay a.more m.facts (second_half m.facts numbers) (λ c x. gathered_from m S i x c) h.news
+      news₁ : Half m.facts rows₁ count₁ gathered (λ c x. gathered_from m S i x c)
+      news₁ = half_later sound a.stay a.more m.facts gathered (λ c x. gathered_from m S i x c) h.news
 
       union_is : union ≡ gathered_from m S (suc i) (conclusion r)
       union_is = fun_ext (λ c. ap₂ ◌||◌ ((news₁ (conclusion r) (concluded_known m.facts r names)).reads c) (a.reads c) ∙ gathered_here m S i r e c)
 
       -- what the place has gathered, and its number, are held
-      pub place_held : (get_or numbers at 0 < count₁ + 2) × (n₁ < count₁ + 2)
+      pub place_held : (get_or gathered at 0 < count₁ + 2) × (n₁ < count₁ + 2)
       place_held = ((news₁ (conclusion r) (concluded_known m.facts r names)).held, a.held)
 
       -- their union does not fit
@@ -159,20 +159,17 @@ module _ (m : Meaning) (S : Family) (i : ℕ) {rows₀ : List Row} {count₀ : �
           (λ s. ⊎_elim (round_set_more m S i (suc i) (omega arith) s) (λ q. subst (RoundSet m S (suc i)) (sym q) (premises_set i r (omega arith) e)))
           (RowOf union) (λ x row. (gathered_from m S (suc i) (conclusion r), conclusion_set i r (omega arith) e, subst (λ z. RowOf z x) union_is row)) t
 
-      module _ {rows₂ : List Row} {count₂ n₂ : ℕ} (b : Adds rows₁ count₁ rows₂ count₂ union n₂) (room : at < length numbers) where
-        abbrev numbers₂ : List ℕ
-        numbers₂ = set numbers at n₂
+      module _ {rows₂ : List Row} {count₂ n₂ : ℕ} (b : Adds rows₁ count₁ rows₂ count₂ union n₂) (room : at < length gathered) where
+        abbrev gathered₂ : List ℕ
+        gathered₂ = set gathered at n₂
 
-        first_kept : (x : Conclusion) → Known m.facts x → first_half numbers₂ (slot m.facts x) ≡ first_half numbers (slot m.facts x)
-        first_kept x known = get_or-set_other numbers at (slot m.facts x) n₂ 0 (λ q. omega (arith, q, slot_below m.facts x known))
-
-        new_number : (x : Conclusion) → Known m.facts x → Stands rows₂ count₂ (second_half m.facts numbers₂ (slot m.facts x)) (λ c. gathered_from m S (suc i) x c)
+        new_number : Half m.facts rows₂ count₂ gathered₂ (λ c x. gathered_from m S (suc i) x c)
         new_number x known = ⊎_elim
             (λ on. let q : conclusion r ≡ x = same_true (conclusion r) x on in
-            subst (λ z. Stands rows₂ count₂ (second_half m.facts numbers₂ (slot m.facts z)) (λ c. gathered_from m S (suc i) z c)) q
-            (stands_same {s = union} (get_or-set_same numbers at n₂ 0 room) (λ c. ap (λ (f : Choices). f c) union_is) (record { held = b.held; reads = b.reads })))
-            (λ off. stands_same {s = λ c. gathered_from m S i x c} (get_or-set_other numbers at (m.facts + 1 + slot m.facts x) n₂ 0 (λ q.
-            let w : conclusion r ≡ x = slots_apart m.facts (conclusion r) x (concluded_known m.facts r names) known (omega (arith, q)) in
+            subst (λ z. Stands rows₂ count₂ (get_or gathered₂ (slot m.facts z) 0) (λ c. gathered_from m S (suc i) z c)) q
+            (stands_same {s = union} (get_or-set_same gathered at n₂ 0 room) (λ c. ap (λ (f : Choices). f c) union_is) (record { held = b.held; reads = b.reads })))
+            (λ off. stands_same {s = λ c. gathered_from m S i x c} (get_or-set_other gathered at (slot m.facts x) n₂ 0 (λ q.
+            let w : conclusion r ≡ x = slots_apart m.facts (conclusion r) x (concluded_known m.facts r names) known (sym q) in
             both_ways (same (conclusion r) x) off (subst (λ z. same (conclusion r) z ≡ true) w (same_self (conclusion r)))))
             (gathered_other m S i r e x off) (stands_later a.sound b.stay b.more (news₁ x known)))
             (cases_Bool (same (conclusion r) x))
@@ -188,9 +185,9 @@ module _ (m : Meaning) (S : Family) (i : ℕ) {rows₀ : List Row} {count₀ : �
         )
 
         -- one place more
-        pub place_done : InRound m S (suc i) rows₀ count₀ rows₂ count₂ numbers₂
+        pub place_done : InRound m S (suc i) rows₀ count₀ rows₂ count₂ standing gathered₂
         place_done = record {
-          olds = λ x known. stands_same {s = λ c. S c x} (first_kept x known) (λ c. refl) (stands_later a.sound b.stay b.more (olds₁ x known));
+          olds = half_later a.sound b.stay b.more m.facts standing S olds₁;
           news = new_number;
           progress = same_progress rows₀ count₀ rows₂ count₂ (λ s. (RoundSet m S i s ⊎ (s ≡ together)) ⊎ (s ≡ union)) (RoundSet m S (suc i)) set_here
               (progress_on (λ s. RoundSet m S i s ⊎ (s ≡ together)) (λ s. s ≡ union) (progress_on (RoundSet m S i) (λ s. s ≡ together) h.progress (set_made together n₁ a)) (set_made union n₂ b));

@@ -1,5 +1,5 @@
 -- A round and the next: what settling says of the sets, and rounds one after the other.
-use Rattle.std.proofs.Common.{◌≡◌, ℕ, suc, ◌+◌, ◌^◌, ◌<◌, ◌≤◌, Bool, true, false, ◌≢◌, ◌⊎◌, ◌↔◌, List, length, Some, sym, refl, ap, ◌∙◌, subst, inl, inr, ⊎_elim, arith}
+use Rattle.std.proofs.Common.{◌≡◌, ℕ, suc, ◌+◌, ◌^◌, ◌<◌, ◌≤◌, Bool, true, false, ◌≢◌, ◌⊎◌, ◌↔◌, List, length, get_or, Some, sym, refl, ap, ◌∙◌, subst, inl, inr, ⊎_elim, arith}
 use Rattle.std.proofs.lemmas.Bool.{both_ways, cases_eq, cases_lt, or_left}
 use Rattle.diagrams.specs.declared.Row.{Row}
 use Rattle.theory.specs.declared.Conclusion.{Conclusion}
@@ -12,11 +12,11 @@ use Rattle.diagrams.proofs.Canonical.{equal_sets_one_number}
 use Rattle.diagrams.proofs.InUse.{differ_or_agree}
 use Rattle.diagrams.proofs.Positions.{constant_rowless}
 use Rattle.saturation.specs.Working.{Changes, Made, Working, position, predicate, goal, premises, concluded}
-use Rattle.saturation.specs.Stages.{Family, slot, Known, first_half, second_half, RoundSet, premises_set, conclusion_set, StartSet, position_set, predicate_set, Progress, TooMany, InRound, BothHalves, Settled, Turned, RoundsSet, AfterRounds, QuietAt, Saturated}
+use Rattle.saturation.specs.Stages.{Family, slot, Known, Half, RoundSet, premises_set, conclusion_set, StartSet, position_set, predicate_set, Progress, TooMany, InRound, BothHalves, Settled, Turned, RoundsSet, AfterRounds, QuietAt, Saturated}
 use Rattle.saturation.proofs.Closing.{round_from, some_not_none, ending}
 use Rattle.saturation.proofs.RoundCount.{still_later, first_quiet}
 use Rattle.saturation.proofs.Saturating.{quiet_still, derives_at, no_progress, progress_on, same_progress, same_rows, too_many_more, too_many_since}
-use Rattle.saturation.proofs.Placing.{stands_same, slot_below, concluded_known}
+use Rattle.saturation.proofs.Placing.{concluded_known}
 
 -- each slot is that of a fact or of the contradiction
 in_slot : (facts k : ℕ) → k < facts + 1 → (x : Conclusion) × Known facts x × (slot facts x ≡ k)
@@ -28,9 +28,9 @@ gained true b ne more = absurd (ne (sym (more refl)))
 gained false true ne more = (refl, refl)
 gained false false ne more = absurd (ne refl)
 
-module _ (m : Meaning) (l : Lawful m) (S : Family) {rows₀ : List Row} {count₀ : ℕ} {rows : List Row} {count : ℕ} {numbers numbers' : List ℕ} {changed : Bool}
-    (h : InRound m S m.places rows₀ count₀ rows count numbers) (t : Settled m.facts numbers numbers' changed) where
-  some_changed : (x : Conclusion) → Known m.facts x → first_half numbers (slot m.facts x) ≢ second_half m.facts numbers (slot m.facts x)
+module _ (m : Meaning) (l : Lawful m) (S : Family) {rows₀ : List Row} {count₀ : ℕ} {rows : List Row} {count : ℕ} {standing gathered standing' gathered' : List ℕ} {changed : Bool}
+    (h : InRound m S m.places rows₀ count₀ rows count standing gathered) (t : Settled standing gathered standing' gathered' changed) where
+  some_changed : (x : Conclusion) → Known m.facts x → get_or standing (slot m.facts x) 0 ≢ get_or gathered (slot m.facts x) 0
       → (c : ℕ) × (c < 2 ^ 16) × ((x : Conclusion) × (S c x ≡ false) × (round m (S c) x ≡ true))
   some_changed x known ne =
       let old = h.olds x known in
@@ -38,24 +38,24 @@ module _ (m : Meaning) (l : Lawful m) (S : Family) {rows₀ : List Row} {count�
       ⊎_elim
       (λ d. let c = d.0 in let g = gained (S c x) (round m (S c) x) (λ e. d.2 (old.reads c ∙ e ∙ sym (new.reads c))) (or_left (S c x) _) in (c, d.1, (x, g.0, g.1)))
       (λ same. absurd (ne (equal_sets_one_number rows count h.progress.sound _ _ old.held new.held same)))
-      (differ_or_agree 65536 (member rows (first_half numbers (slot m.facts x))) (member rows (second_half m.facts numbers (slot m.facts x))))
+      (differ_or_agree 65536 (member rows (get_or standing (slot m.facts x) 0)) (member rows (get_or gathered (slot m.facts x) 0)))
 
   none_changed : changed ≡ false → (c : ℕ) (x : Conclusion) → round m (S c) x ≡ true → S c x ≡ true
   none_changed off c x on = ⊎_elim (λ e. e)
       (λ p. let known : Known m.facts x = subst (Known m.facts) p.4 (concluded_known m.facts p.1 (l.bounds.names p.0 p.1 p.2)) in
-      sym ((h.olds x known).reads c) ∙ ap (λ z. member rows z c) (t.agreed off (slot m.facts x) (slot_below m.facts x known)) ∙ (h.news x known).reads c ∙ on)
+      sym ((h.olds x known).reads c) ∙ ap (λ z. member rows (get_or z (slot m.facts x) 0) c) (t.agreed off) ∙ (h.news x known).reads c ∙ on)
       (round_from m (S c) x on)
 
-  pub round_settled : Turned m S rows₀ count₀ rows count numbers' changed
-  round_settled = record {
+  pub round_settled : length gathered ≡ m.facts + 1 → Turned m S rows₀ count₀ rows count standing' gathered' changed
+  round_settled long = record {
     halves = record {
-      olds = λ x known. stands_same {s = λ c. round m (S c) x} (t.taken (slot m.facts x) (slot_below m.facts x known)) (λ c. refl) (h.news x known);
-      news = λ x known. stands_same {s = λ c. round m (S c) x} (t.kept (slot m.facts x) (slot_below m.facts x known)) (λ c. refl) (h.news x known);
+      olds = subst (λ z. Half m.facts rows count z (λ c. round m (S c))) (sym t.taken) h.news;
+      news = subst (λ z. Half m.facts rows count z (λ c. round m (S c))) (sym t.kept) h.news;
     };
     progress = h.progress;
     differed = λ on. let d = t.differed on in
-        let i = in_slot m.facts d.0 d.1 in
-        some_changed i.0 i.1 (subst (λ k. first_half numbers k ≢ second_half m.facts numbers k) (sym i.2) d.2);
+        let i = in_slot m.facts d.0 (omega (arith, d.1, long)) in
+        some_changed i.0 i.1 (subst (λ k. get_or standing k 0 ≢ get_or gathered k 0) (sym i.2) d.2);
     agreed = none_changed;
   }
 
@@ -63,9 +63,9 @@ module _ (m : Meaning) (q : Question) where
   no_rounds_set : (s : Choices) → RoundsSet m q 0 s → ⊥
   no_rounds_set s t = omega (arith, t.1)
 
-  pub rounds_begin : {rows : List Row} {count : ℕ} {numbers : List ℕ} → Sound rows count → BothHalves m.facts rows count numbers (λ c. start m q c) → AfterRounds m q 0 rows count rows count numbers
+  pub rounds_begin : {rows : List Row} {count : ℕ} {standing gathered : List ℕ} → Sound rows count → BothHalves m.facts rows count standing gathered (λ c. start m q c) → AfterRounds m q 0 rows count rows count standing gathered
   unfolding after
-  rounds_begin {rows} {count} {numbers} sound h = record {
+  rounds_begin {rows} {count} sound h = record {
     halves = h;
     made = λ j lt. absurd (omega (arith, lt));
     progress = same_progress rows count rows count (λ _. ⊥) (RoundsSet m q 0) (λ s. ((λ b. absurd b), λ d. absurd (no_rounds_set s d))) (no_progress rows count sound);
@@ -87,21 +87,21 @@ module _ (m : Meaning) (q : Question) where
     λ t. ⊎_elim (λ e. inr (subst (λ j. RoundSet m (λ c. after m q c j) m.places s) e t.2)) (λ ne. inl (t.0, omega (arith, t.1, ne), t.2)) (cases_eq t.0 k),
   )
 
-  module _ {k : ℕ} {rows₀ : List Row} {count₀ : ℕ} {rows : List Row} {count : ℕ} {numbers : List ℕ} (h : AfterRounds m q k rows₀ count₀ rows count numbers) where
+  module _ {k : ℕ} {rows₀ : List Row} {count₀ : ℕ} {rows : List Row} {count : ℕ} {standing gathered : List ℕ} (h : AfterRounds m q k rows₀ count₀ rows count standing gathered) where
     pub round_full : TooMany rows count (RoundSet m (λ c. after m q c k) m.places) → TooMany rows₀ count₀ (Working m q)
     round_full t = too_many_since (RoundsSet m q k) (Working m q) h.progress (rounds_working k k (omega arith) h.made)
         (λ x. (s : Choices) × RoundSet m (λ c. after m q c k) m.places s × RowOf s x) (λ x d. (d.0, round_working k h.made m.places d.0 d.1, d.2)) t
 
-    module _ {rows' : List Row} {count' : ℕ} {numbers' : List ℕ} where
-      progress_here : {changed : Bool} → Turned m (λ c. after m q c k) rows count rows' count' numbers' changed → Progress rows₀ count₀ rows' count' (RoundsSet m q (suc k))
+    module _ {rows' : List Row} {count' : ℕ} {standing' gathered' : List ℕ} where
+      progress_here : {changed : Bool} → Turned m (λ c. after m q c k) rows count rows' count' standing' gathered' changed → Progress rows₀ count₀ rows' count' (RoundsSet m q (suc k))
       progress_here t = same_progress rows₀ count₀ rows' count' (λ s. RoundsSet m q k s ⊎ RoundSet m (λ c. after m q c k) m.places s) (RoundsSet m q (suc k)) (one_round k)
           (progress_on (RoundsSet m q k) (RoundSet m (λ c. after m q c k) m.places) h.progress t.progress)
 
-      changes : Turned m (λ c. after m q c k) rows count rows' count' numbers' true → Changes m q k
+      changes : Turned m (λ c. after m q c k) rows count rows' count' standing' gathered' true → Changes m q k
       unfolding after
       changes t = t.differed refl
 
-      pub one_round_more : Turned m (λ c. after m q c k) rows count rows' count' numbers' true → AfterRounds m q (suc k) rows₀ count₀ rows' count' numbers'
+      pub one_round_more : Turned m (λ c. after m q c k) rows count rows' count' standing' gathered' true → AfterRounds m q (suc k) rows₀ count₀ rows' count' standing' gathered'
       unfolding after
       one_round_more t = record {
         halves = t.halves;
@@ -109,11 +109,11 @@ module _ (m : Meaning) (q : Question) where
         progress = progress_here t;
       }
 
-      no_changes : Turned m (λ c. after m q c k) rows count rows' count' numbers' false → Changes m q k → ⊥
+      no_changes : Turned m (λ c. after m q c k) rows count rows' count' standing' gathered' false → Changes m q k → ⊥
       unfolding after
       no_changes t d = let g = d.2 in both_ways (after m q d.0 k g.0) g.1 (t.agreed refl d.0 g.0 g.2)
 
-      pub rounds_quiet : Turned m (λ c. after m q c k) rows count rows' count' numbers' false → QuietAt m q rows₀ count₀ rows' count' (first_half numbers' m.facts) k
+      pub rounds_quiet : Turned m (λ c. after m q c k) rows count rows' count' standing' gathered' false → QuietAt m q rows₀ count₀ rows' count' (get_or standing' m.facts 0) k
       unfolding after
       rounds_quiet t = record { made = h.made; quiet = no_changes t; stands = t.halves.olds Contradiction tt; progress = progress_here t }
 

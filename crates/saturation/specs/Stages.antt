@@ -1,11 +1,10 @@
 -- The stages of a saturation: what stands in a work slice before, during and after a round, and the sets made on the way.
--- A work slice has two halves: in each, a number for every fact, and behind them one for the contradiction.
+-- A work slice has two halves: what stands before the round, and what has been gathered in it. Each half has a number for
+-- every fact, and behind them one for the contradiction.
 --
 --   Family         what each choice has at some time
 --   slot           where a fact or the contradiction stands in each half
 --   Known          the contradiction, or a fact below a number
---   first_half     the number in a slot of the first half
---   second_half    the number in a slot of the second half
 --   Stands         a number is held and reads as a set
 --   Half           the numbers of a half read as what a family has
 --   gathered_from  what a conclusion has gathered in a round, from before it and from the places below i
@@ -15,8 +14,7 @@
 --   Progress       the rows in use are those at the start and those of the sets made
 --   TooMany        the rows at the start and those of the sets outnumber the rows there are
 --   InRound        where a round stands behind its places below i
---   Settled        the first half takes over the second; whether some slot differed
---   Begun          the second half takes over the first
+--   Settled        what was gathered stands from now on; whether some slot differed
 --   Started        where the start stands behind its positions below k
 --   opposed        what a choice has besides, from the opposites of the goals at the places below j
 --   BothHalves     both halves read as what a family has
@@ -49,19 +47,13 @@ abbrev pub Known : ℕ → Conclusion → Type 0
 Known facts (Fact f) = f < facts
 Known facts Contradiction = Unit {0}
 
-abbrev pub first_half : List ℕ → ℕ → ℕ
-first_half numbers k = slice_index numbers k
-
-abbrev pub second_half : ℕ → List ℕ → ℕ → ℕ
-second_half facts numbers k = slice_index numbers (facts + 1 + k)
-
 pub record Stands (rows : List Row) (count n : ℕ) (s : Choices) : Type 0 where
   pub held : n < count + 2
   pub reads : (c : ℕ) → member rows n c ≡ s c
 
--- `at` has the number of each slot
-abbrev pub Half : ℕ → List Row → ℕ → (ℕ → ℕ) → Family → Type 0
-Half facts rows count at S = (x : Conclusion) → Known facts x → Stands rows count (at (slot facts x)) (λ c. S c x)
+-- `numbers` has the number of each slot
+abbrev pub Half : ℕ → List Row → ℕ → List ℕ → Family → Type 0
+Half facts rows count numbers S = (x : Conclusion) → Known facts x → Stands rows count (slice_index numbers (slot facts x)) (λ c. S c x)
 
 abbrev pub gathered_from : Meaning → Family → ℕ → Conclusion → Choices
 gathered_from m S i x c = S c x || some_below i (λ j. gives (S c) (m.rule j) x)
@@ -98,43 +90,39 @@ abbrev pub TooMany : List Row → ℕ → (Choices → Type 0) → Type 0
 TooMany rows count D = MoreThan (capacity rows) (λ x. InUse rows count x ⊎ ((s : Choices) × D s × RowOf s x))
 
 -- rows₀ and count₀ are those at the beginning of the round
-pub record InRound (m : Meaning) (S : Family) (i : ℕ) (rows₀ : List Row) (count₀ : ℕ) (rows : List Row) (count : ℕ) (numbers : List ℕ) : Type 0 where
-  pub olds : Half m.facts rows count (first_half numbers) S
-  pub news : Half m.facts rows count (second_half m.facts numbers) (λ c x. gathered_from m S i x c)
+pub record InRound (m : Meaning) (S : Family) (i : ℕ) (rows₀ : List Row) (count₀ : ℕ) (rows : List Row) (count : ℕ) (standing gathered : List ℕ) : Type 0 where
+  pub olds : Half m.facts rows count standing S
+  pub news : Half m.facts rows count gathered (λ c x. gathered_from m S i x c)
   pub progress : Progress rows₀ count₀ rows count (RoundSet m S i)
 
 -- both halves read as the family has it
-pub record BothHalves (facts : ℕ) (rows : List Row) (count : ℕ) (numbers : List ℕ) (S : Family) : Type 0 where
-  pub olds : Half facts rows count (first_half numbers) S
-  pub news : Half facts rows count (second_half facts numbers) S
+pub record BothHalves (facts : ℕ) (rows : List Row) (count : ℕ) (standing gathered : List ℕ) (S : Family) : Type 0 where
+  pub olds : Half facts rows count standing S
+  pub news : Half facts rows count gathered S
 
-pub record Settled (facts : ℕ) (numbers numbers' : List ℕ) (changed : Bool) : Type 0 where
-  pub taken : (k : ℕ) → k < facts + 1 → first_half numbers' k ≡ second_half facts numbers k
-  pub kept : (k : ℕ) → k < facts + 1 → second_half facts numbers' k ≡ second_half facts numbers k
-  pub differed : changed ≡ true → (k : ℕ) × (k < facts + 1) × (first_half numbers k ≢ second_half facts numbers k)
-  pub agreed : changed ≡ false → (k : ℕ) → k < facts + 1 → first_half numbers k ≡ second_half facts numbers k
+pub record Settled (standing gathered standing' gathered' : List ℕ) (changed : Bool) : Type 0 where
+  pub taken : standing' ≡ gathered
+  pub kept : gathered' ≡ gathered
+  pub differed : changed ≡ true → (k : ℕ) × (k < length gathered) × (slice_index standing k ≢ slice_index gathered k)
+  pub agreed : changed ≡ false → standing ≡ gathered
 
-pub record Begun (facts : ℕ) (numbers numbers' : List ℕ) : Type 0 where
-  pub kept : (k : ℕ) → k < facts + 1 → first_half numbers' k ≡ first_half numbers k
-  pub taken : (k : ℕ) → k < facts + 1 → second_half facts numbers' k ≡ first_half numbers k
-
-pub record Turned (m : Meaning) (S : Family) (rows : List Row) (count : ℕ) (rows' : List Row) (count' : ℕ) (numbers' : List ℕ) (changed : Bool) : Type 0 where
-  pub halves : BothHalves m.facts rows' count' numbers' (λ c. round m (S c))
+pub record Turned (m : Meaning) (S : Family) (rows : List Row) (count : ℕ) (rows' : List Row) (count' : ℕ) (standing' gathered' : List ℕ) (changed : Bool) : Type 0 where
+  pub halves : BothHalves m.facts rows' count' standing' gathered' (λ c. round m (S c))
   pub progress : Progress rows count rows' count' (RoundSet m S m.places)
   pub differed : changed ≡ true → (c : ℕ) × (c < 2 ^ 16) × ((x : Conclusion) × (S c x ≡ false) × (round m (S c) x ≡ true))
   pub agreed : changed ≡ false → (c : ℕ) (x : Conclusion) → round m (S c) x ≡ true → S c x ≡ true
 
 -- rows₀ and count₀ are those before the first position
-pub record Started (facts : ℕ) (predicates : List ℕ) (k : ℕ) (rows₀ : List Row) (count₀ : ℕ) (rows : List Row) (count : ℕ) (numbers : List ℕ) : Type 0 where
-  pub olds : Half facts rows count (first_half numbers) (started predicates k)
+pub record Started (facts : ℕ) (predicates : List ℕ) (k : ℕ) (rows₀ : List Row) (count₀ : ℕ) (rows : List Row) (count : ℕ) (standing : List ℕ) : Type 0 where
+  pub olds : Half facts rows count standing (started predicates k)
   pub progress : Progress rows₀ count₀ rows count (StartSet predicates k)
 
 abbrev pub RoundsSet : Meaning → Question → ℕ → Choices → Type 0
 RoundsSet m q k s = (j : ℕ) × (j < k) × RoundSet m (λ c. after m q c j) m.places s
 
 -- rows₀ and count₀ are those before the first round
-pub record AfterRounds (m : Meaning) (q : Question) (k : ℕ) (rows₀ : List Row) (count₀ : ℕ) (rows : List Row) (count : ℕ) (numbers : List ℕ) : Type 0 where
-  pub halves : BothHalves m.facts rows count numbers (λ c. after m q c k)
+pub record AfterRounds (m : Meaning) (q : Question) (k : ℕ) (rows₀ : List Row) (count₀ : ℕ) (rows : List Row) (count : ℕ) (standing gathered : List ℕ) : Type 0 where
+  pub halves : BothHalves m.facts rows count standing gathered (λ c. after m q c k)
   pub made : Made m q k
   pub progress : Progress rows₀ count₀ rows count (RoundsSet m q k)
 

@@ -10,13 +10,13 @@ use Rattle.book.proofs.book.Book.read.Goals as goal
 pub follow-requires : goal.follow-requires
 follow-requires c = record { sound = kept_sound c.args.self.now.kept; held = omega arith }
 
-pub returns-then-number-self : goal.returns-then-number-self
-returns-then-number-self c =
+pub returns-then-not-holds : goal.returns-then-not-holds
+returns-then-not-holds c =
     let b = book_of c.args.self.now.lent.rows.now c.args.self.now.lent.count in
     record {
-      reads = (omega arith, refl);
+      reads = (grind arith, refl);
       canonical = equal_sets_one_number _ _ (kept_sound c.args.self.now.kept);
-      continues = goes_on b (reading c.args.number c.args.choice) (Err NotHeld) b tt ((omega arith, refl), refl);
+      continues = goes_on b (reading c.args.number c.args.choice) (Err NotHeld) b tt ((grind arith, refl), refl);
     }
 
 pub returns : goal.returns
