@@ -5,9 +5,9 @@ ghost use Rattle.diagrams.specs.Books.{opening, book_of};
 ghost use Rattle.book.specs.Calls.{Reads};
 ghost use Rattle.book.specs.Runs.{Begins, GoesOn, reading};
 
-use crate::manager::MOST_ROWS;
 use crate::book::Book;
 use crate::faults::BookFault;
+use crate::manager::MOST_ROWS;
 use diagrams::Row;
 use register::Register;
 

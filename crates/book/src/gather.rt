@@ -96,7 +96,11 @@ impl Work<'_> {
     }
 
     // One place: what the premises of its rule have together is united with what its conclusion has gathered.
-    pub(crate) fn derive(&mut self, manager: &mut Manager<'_, '_, '_>, rule: Rule) -> Result<(), NoRoom>
+    pub(crate) fn derive(
+        &mut self,
+        manager: &mut Manager<'_, '_, '_>,
+        rule: Rule,
+    ) -> Result<(), NoRoom>
         requires standing { Holding self.old.standing.now manager.old.register.now.count }
         requires gathered { Holding self.old.gathered.now manager.old.register.now.count }
         requires names { Names (length self.old.standing.now - 1) rule }

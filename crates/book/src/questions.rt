@@ -44,6 +44,7 @@ fn sized<T: Theory>(
 }
 
 // A question that has passed its checks. Rows that do not fit are all given back.
+#[tactic(auto, using(crate::proofs::Ending::given_back))]
 fn answer<T: Theory>(
     register: &mut Register<'_, Row>,
     inquiry: &Inquiry<'_, T>,
@@ -68,6 +69,7 @@ fn answer<T: Theory>(
 impl Book<'_> {
     // Which choices of the predicates are impossible together with every goal being false: the number of their set, and
     // the most rounds that one of the choices gained in.
+    #[tactic(auto, using(diagrams::proofs::Leaves::kept_out))]
     pub fn question<T: Theory>(
         &mut self,
         inquiry: &Inquiry<'_, T>,
@@ -92,6 +94,7 @@ fn pair_of<T: Theory>(theory: &T, predicate: u16) -> (u16, u16)
 }
 
 // Each predicate at an even position, and its opposite behind it.
+#[tactic(auto, using(crate::proofs::Pairs::all_paired))]
 fn with_opposites<T: Theory>(theory: &T, predicates: &[u16]) -> [u16; 16]
     requires { length predicates.now ≤ 8 }
     ensures { take (2 * length predicates.now) result ≡ with_opposites (meaning T.Theory theory.now) predicates.now }
@@ -108,6 +111,7 @@ fn with_opposites<T: Theory>(theory: &T, predicates: &[u16]) -> [u16; 16]
 impl Book<'_> {
     // The question that has each predicate at an even position and its opposite behind it. Its answer has a full case,
     // which chooses one of each pair, exactly when the case implies that some goal is true.
+    #[tactic(auto, using(diagrams::proofs::Leaves::kept_out))]
     pub fn abstraction<T: Theory>(
         &mut self,
         inquiry: &Inquiry<'_, T>,

@@ -73,5 +73,5 @@ returns-clause-applied t c =
     let b = c.args.self.now.register.now in
     let u = c.make.new.self.register.now in
     let s = union_or_intersection c.args.op b.rows.now c.args.a c.args.b in
-    subst (λ z. Adds b.rows.now b.count z.now.rows.now z.now.count s c.in_ok-n.n) (sym c.remember.ensures)
+    subst (λ z. Adds b.rows.now b.count z.now.rows.now z.now.count s c.in_ok-n.n) (sym c.remember.ensures.same)
     (done c.args.op c.split-split.ensures c.apply.ensures.enlarged.extends c.in_ok-without.ensures.applied c.in_ok-with.ensures.applied u.rows.now u.count (Ok c.in_ok-n.n) c.in_ok-n.ensures.made)
