@@ -13,12 +13,16 @@ use crate::calls::give_back;
 use crate::faults::QuestionFault;
 use crate::fixpoint::within;
 use crate::inquiry::Inquiry;
+use arrayvec::ArrayVec;
 use diagrams::{NoRoom, Row};
 use register::Register;
 use theory::Theory;
 
 // A book of more rows has the largest index.
 const MANY_ROWS: usize = 4096;
+
+// A question has at most so many predicates, an abstraction, which makes two of each, half as many.
+const MOST_PREDICATES: usize = 16;
 
 // Chooses the sizes of a question's tables: light ones for few places and predicates, and an index as large as the book.
 fn sized<T: Theory>(
@@ -80,7 +84,7 @@ impl Book<'_> {
         ensures continues { GoesOn (book_of self.old.lent.rows.now self.old.lent.count) (question (meaning T.Theory inquiry.now.theory.now) inquiry.now.predicates.now inquiry.now.goals.now (length work.old)) result (book_of self.new.lent.rows.now self.new.lent.count) }
         ensures work { work.new ≡ work_after (T.Theory.facts inquiry.now.theory.now) (first_fault (T.Theory.facts inquiry.now.theory.now) 16 inquiry.now.predicates.now inquiry.now.goals.now (length work.old)) work.old }
     {
-        inquiry.check(16, work.len())?;
+        inquiry.check(MOST_PREDICATES, work.len())?;
         answer(&mut self.lent, inquiry, work)
     }
 }
@@ -94,16 +98,15 @@ fn pair_of<T: Theory>(theory: &T, predicate: u16) -> (u16, u16)
 }
 
 // Each predicate at an even position, and its opposite behind it.
-#[tactic(auto, using(crate::proofs::Pairs::all_paired))]
-fn with_opposites<T: Theory>(theory: &T, predicates: &[u16]) -> [u16; 16]
+fn with_opposites<T: Theory>(theory: &T, predicates: &[u16]) -> ArrayVec<u16, MOST_PREDICATES>
     requires { length predicates.now ≤ 8 }
-    ensures { take (2 * length predicates.now) result ≡ with_opposites (meaning T.Theory theory.now) predicates.now }
+    ensures { result.items ≡ with_opposites (meaning T.Theory theory.now) predicates.now }
 {
-    let mut pairs = [0u16; 16];
-    for (k, predicate) in predicates.iter().enumerate() {
+    let mut pairs = ArrayVec::new();
+    for predicate in predicates {
         let (first, second) = pair_of(theory, *predicate);
-        pairs[2 * k] = first;
-        pairs[2 * k + 1] = second;
+        pairs.push(first);
+        pairs.push(second);
     }
     pairs
 }
@@ -123,11 +126,11 @@ impl Book<'_> {
         ensures continues { GoesOn (book_of self.old.lent.rows.now self.old.lent.count) (abstraction (meaning T.Theory inquiry.now.theory.now) inquiry.now.predicates.now inquiry.now.goals.now (length work.old)) result (book_of self.new.lent.rows.now self.new.lent.count) }
         ensures work { work.new ≡ work_after (T.Theory.facts inquiry.now.theory.now) (first_fault (T.Theory.facts inquiry.now.theory.now) 8 inquiry.now.predicates.now inquiry.now.goals.now (length work.old)) work.old }
     {
-        inquiry.check(8, work.len())?;
+        inquiry.check(MOST_PREDICATES / 2, work.len())?;
         let pairs = with_opposites(inquiry.theory, inquiry.predicates);
         let paired = Inquiry {
             theory: inquiry.theory,
-            predicates: &pairs[..2 * inquiry.predicates.len()],
+            predicates: &pairs,
             goals: inquiry.goals,
         };
         answer(&mut self.lent, &paired, work)
