@@ -1,5 +1,5 @@
 -- Steps of a run one after the other, what a part of a join counts with, and what equal numbers tell.
-use Rattle.std.proofs.Common.{◌≡◌, ℕ, Bool, true, false, cond, eqb, ◌⊎◌, List, [], ◌∷◌, ◌++◌, Some, Ok, Err, Result, sym, refl, ap, ◌∙◌, subst, inl, inr, ⊎_elim}
+use Rattle.std.proofs.Common.{◌≡◌, ℕ, Bool, true, false, cond, eqb, ◌⊎◌, List, [], ◌∷◌, ◌++◌, Some, sym, refl, ap, ◌∙◌, subst, inl, inr, ⊎_elim}
 use mathlib.Core.Logic.Iff
 use mathlib.Core.List.Memᴰ
 use mathlib.Core.List.{Memᴰ}
@@ -9,7 +9,7 @@ use Rattle.diagrams.specs.declared.Operation.TheVariants.{Union, Intersection}
 use Rattle.diagrams.specs.Books.{Book}
 use Rattle.book.specs.Runs.{GivenFor, together_of, Same, Given, given, first_given, else_read, part, Run}
 use Rattle.runs.proofs.Telling.{equal_numbers_equal_choices}
-use Rattle.comparison.specs.Comparing.{Later, Leads, Tells, Compared}
+use Rattle.comparison.specs.Comparing.{Leads, Tells, Compared}
 
 -- a call that is a step of each run, whatever number it gives
 pub goes_leads : {b b' : Book} {new : List Given → List Given} → ((before : List Given) → Run b before → Run b' (before ++ new before)) → Leads b b'

@@ -4,12 +4,11 @@
 --   Leads       every run of a book goes on to the book afterwards
 --   Tells       whether two numbers are equal tells whether two sets of choices are the same
 --   Compared    the run goes on, and each comparison with the first answer tells
-use Rattle.std.specs.Prelude.{◌≡◌, ℕ, Bool, true, ◌↔◌, List, [], ◌∷◌, ◌++◌, Result, MatchResult}
+use Rattle.std.specs.Prelude.{◌≡◌, Bool, true, ◌↔◌, List}
 use mathlib.Core.List.{Memᴰ}
-use Rattle.diagrams.specs.declared.Operation.{Operation}
 use Rattle.diagrams.specs.declared.Operation.TheVariants.{Union, Intersection}
 use Rattle.diagrams.specs.Books.{Book}
-use Rattle.book.specs.Runs.{GivenFor, together_of, Given, given, part, Same, Run}
+use Rattle.book.specs.Runs.{GivenFor, together_of, Given, Same, Run}
 use Rattle.comparison.specs.declared.Comparison.{Comparison}
 
 pub record Later (b' : Book) (before : List Given) : Type 0 where
