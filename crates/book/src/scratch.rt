@@ -1,5 +1,5 @@
 ghost use Rattle.std.specs.Prelude.{◌≡◌, ◌<◌, min, max, IfSome};
-ghost use Rattle.book.specs.Scratch.{Recalls, Writes, Notes, table_of};
+ghost use Rattle.book.specs.Scratch.{Recalls, Writes, table_of};
 
 use diagrams::Operation;
 
