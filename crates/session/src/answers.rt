@@ -1,7 +1,7 @@
 ghost use Rattle.std.specs.Prelude.{◌≡◌, ℕ, ◌+◌, ◌-◌, ◌<◌, ◌≤◌, length, ◌≢◌, slice_index};
+ghost use Rattle.session.specs.Answers.{choices};
 
 use book::{Book, Inquiry, QuestionFault};
-use runs::first_equal;
 use theory::Theory;
 
 // An answer: its number in the book, and over how many positions its choices are.
@@ -15,7 +15,8 @@ pub(crate) struct Answer {
 impl Answer {
     // How many choices over its positions belong to it.
     pub(crate) fn count(self, book: &Book<'_>) -> u32
-        ensures { result ≤ 65536 }
+        ensures few { result ≤ 65536 }
+        ensures exact { result ≡ choices book.now.lent.rows.now book.now.lent.count self.number self.positions }
     {
         (0..1u32 << self.positions)
             .filter(|choice| book.read(self.number, *choice as u16) == Ok(true))
@@ -55,5 +56,5 @@ pub(crate) fn first_ordinal(earlier: &[u16], number: u16) -> usize
     ensures before { (k : ℕ) → k + 1 < result → slice_index earlier.now k ≢ number }
     ensures found { result ≤ length earlier.now → slice_index earlier.now (result - 1) ≡ number }
 {
-    first_equal(earlier, number).unwrap_or(earlier.len()) + 1
+    runs::first_equal(earlier, number).unwrap_or(earlier.len()) + 1
 }

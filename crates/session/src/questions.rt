@@ -1,5 +1,6 @@
-ghost use Rattle.std.specs.Prelude.{◌<◌};
+ghost use Rattle.std.specs.Prelude.{◌≡◌, ◌<◌, OnErr};
 ghost use Rattle.arrayvec.specs.ArrayVec.{array_vec_len};
+ghost use Rattle.records.specs.Pending.{predicates_of, goals_of};
 
 use crate::answers::{Answer, first_ordinal};
 use crate::faults::Fault;
@@ -29,9 +30,12 @@ impl Questions<'_> {
     >(&mut self, theory: &T, ask: F) -> Result<Option<Line>, Fault>
         requires room { array_vec_len self.old.answers < 256 }
         requires ask { F.IsAlwaysCallable ask }
+        ensures predicates { OnErr result (predicates_of self.new.pending ≡ predicates_of self.old.pending) }
+        ensures goals { OnErr result (goals_of self.new.pending ≡ goals_of self.old.pending) }
+        ensures answers { OnErr result (self.new.answers.items ≡ self.old.answers.items) }
     {
-        let predicates: ArrayVec<u16, 16> = facts_of(theory, self.pending.predicates())?;
-        let goals: ArrayVec<u16, 8> = facts_of(theory, self.pending.goals())?;
+        let predicates = facts_of::<T, 16>(theory, self.pending.predicates())?;
+        let goals = facts_of::<T, 8>(theory, self.pending.goals())?;
         let inquiry = Inquiry {
             theory,
             predicates: predicates.as_slice(),

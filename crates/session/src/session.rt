@@ -1,3 +1,6 @@
+ghost use Rattle.std.specs.Prelude.{◌≡◌, [], OnErr};
+ghost use Rattle.records.specs.Pending.{predicates_of, goals_of};
+
 use crate::answers::{abstraction, question};
 use crate::faults::Fault;
 use crate::questions::Questions;
@@ -17,7 +20,13 @@ pub struct Session<'s> {
 
 impl<'s> Session<'s> {
     // A session with nothing asked and nothing waiting.
-    pub fn new(table: TermTable<'s>, book: Book<'s>, work: &'s mut [u32]) -> Session<'s> {
+    pub fn new(table: TermTable<'s>, book: Book<'s>, work: &'s mut [u32]) -> Session<'s>
+        ensures table { result.table ≡ table.entry }
+        ensures book { result.questions.book ≡ book.entry }
+        ensures work { result.questions.work.ghost_name ≡ work.entry.ghost_name }
+        ensures waiting { (predicates_of result.questions.pending ≡ []) × (goals_of result.questions.pending ≡ []) }
+        ensures answers { result.questions.answers.items ≡ [] }
+    {
         Session {
             table,
             questions: Questions {
@@ -32,7 +41,9 @@ impl<'s> Session<'s> {
 
 impl Session<'_> {
     // How many rows of the book are in use.
-    pub fn rows_in_use(&self) -> u16 {
+    pub fn rows_in_use(&self) -> u16
+        ensures { result ≡ self.now.questions.book.lent.count }
+    {
         self.questions.book.rows_in_use()
     }
 
@@ -57,7 +68,11 @@ impl Session<'_> {
 
     // Takes one record: nothing to print for a term, a predicate or a goal, the answer's line for a question or an
     // abstraction. A refused record leaves what waits.
-    pub fn take(&mut self, bytes: &[u8]) -> Result<Option<Line>, Fault> {
+    pub fn take(&mut self, bytes: &[u8]) -> Result<Option<Line>, Fault>
+        ensures predicates { OnErr result (predicates_of self.new.questions.pending ≡ predicates_of self.old.questions.pending) }
+        ensures goals { OnErr result (goals_of self.new.questions.pending ≡ goals_of self.old.questions.pending) }
+        ensures answers { OnErr result (self.new.questions.answers.items ≡ self.old.questions.answers.items) }
+    {
         match read(bytes)? {
             Record::Term {
                 arity,

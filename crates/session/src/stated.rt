@@ -27,10 +27,10 @@ impl Stated for Equality<'_, '_> {
         let relation = match statement.relation {
             Relation::Equal => terms::Relation::Equal,
             Relation::Different => terms::Relation::Different,
-            _ => return Err(Fault::Record(RecordFault::WrongRelation)),
+            _ => return Err(RecordFault::WrongRelation.into()),
         };
         if statement.constant != 0 {
-            return Err(Fault::Record(RecordFault::NotZero));
+            return Err(RecordFault::NotZero.into());
         }
         Ok(self.fact(relation, statement.left, statement.right)?)
     }
@@ -43,7 +43,7 @@ impl Stated for Differences {
         let bound = match statement.relation {
             Relation::AtMost => Bound::AtMost,
             Relation::Below => Bound::Below,
-            _ => return Err(Fault::Record(RecordFault::WrongRelation)),
+            _ => return Err(RecordFault::WrongRelation.into()),
         };
         Ok(self.fact(bound, statement.left, statement.right, statement.constant)?)
     }
