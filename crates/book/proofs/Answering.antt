@@ -1,17 +1,11 @@
 -- The end of a saturation, and what it says of a question's answer.
-use Rattle.std.proofs.Common.{ℕ, List, length, None, Ok, Err, Result, MatchResult}
-use mathlib.Core.Logic.Iff
+use Rattle.std.proofs.Common.{ℕ, List, length, Ok, Err, Result, MatchResult}
 use Rattle.theory.specs.Theory.{Meaning, Lawful}
-use Rattle.theory.specs.Rounds.{Question, Proper}
-use Rattle.theory.specs.Abstraction.{ask, with_opposites}
+use Rattle.theory.specs.Rounds.{Question}
 use Rattle.diagrams.specs.declared.Row.{Row}
-use Rattle.diagrams.specs.Books.{Book}
 use Rattle.saturation.specs.Working.{Working}
 use Rattle.saturation.specs.Stages.{Progress, StartSet, TooMany, QuietAt, Saturated}
-use Rattle.saturation.proofs.FullCases.{full_cases_imply}
 use Rattle.saturation.proofs.Turning.{rounds_full, saturated}
-use Rattle.book.specs.declared.faults.QuestionFault.{QuestionFault}
-use Rattle.book.specs.Questions.{Asked, Implied}
 
 pub saturation_ends : {E : Type 0} (m : Meaning) (q : Question) (l : Lawful m) {rows : List Row} {count : ℕ} {rows₁ : List Row} {count₁ : ℕ} → Progress rows count rows₁ count₁ (StartSet q.predicates (length q.predicates))
     → (rows₂ : List Row) (count₂ : ℕ) (o : Result (record { 0 : ℕ; 1 : ℕ }) E)

@@ -1,12 +1,11 @@
-ghost use Rattle.std.specs.Prelude.{◌≡◌, ℕ, ◌+◌, ◌*◌, ◌<◌, ◌≤◌, ◌++◌, drop, length, replicate, slice_index};
+ghost use Rattle.std.specs.Prelude.{◌≡◌, ℕ, ◌+◌, ◌*◌, ◌<◌, ◌≤◌, ◌++◌, drop, length, replicate, slice_index, ◌≢◌, IsTrue};
 ghost use Rattle.diagrams.specs.Books.{KeptBook, capacity};
 ghost use Rattle.theory.specs.Abstraction.{ask};
 ghost use Rattle.theory.specs.Means.{meaning};
-ghost use Rattle.saturation.specs.Stages.{Settled};
 ghost use Rattle.book.specs.Growing.{Enlarged};
 ghost use Rattle.book.specs.Steps.{Holding, Stepped, Starts, Opposes, Rounded, Turns, RoundsEnd, Saturates};
 
-use crate::inquiry::Inquiry;
+use crate::inquiry::Checked;
 use crate::manager::{Manager, link};
 use crate::scratch::Entry;
 use crate::work::Work;
@@ -24,7 +23,10 @@ fn denied<T: Theory>(theory: &T, goal: u16) -> Option<u16>
 // Takes over what was gathered; whether some set has changed. Sets are compared by their numbers, since one set has one.
 fn settle(standing: &mut [u32], gathered: &mut [u32]) -> bool
     requires { length gathered.old ≡ length standing.old }
-    ensures { Settled standing.old gathered.old standing.new gathered.new result }
+    ensures taken { standing.new ≡ gathered.old }
+    ensures kept { gathered.new ≡ gathered.old }
+    ensures changed { IsTrue result → standing.old ≢ gathered.old }
+    ensures same { (IsTrue result → ⊥) → standing.old ≡ gathered.old }
 {
     let changed = *standing != *gathered;
     standing.copy_from_slice(gathered);
@@ -150,13 +152,11 @@ impl Work<'_> {
     fn saturate<T: Theory>(
         &mut self,
         manager: &mut Manager<'_, '_, '_>,
-        inquiry: &Inquiry<'_, T>,
+        inquiry: &Checked<'_, T>,
     ) -> Result<(u16, u16), NoRoom>
         requires standing { (k : ℕ) → slice_index self.old.standing.now k ≡ 0 }
         requires gathered { (k : ℕ) → slice_index self.old.gathered.now k ≡ 0 }
         requires long { length self.old.standing.now ≡ T.Theory.facts inquiry.now.theory.now + 1 }
-        requires few { length inquiry.now.predicates.now ≤ 16 }
-        requires facts { (k : ℕ) → k < length inquiry.now.predicates.now → slice_index inquiry.now.predicates.now k < T.Theory.facts inquiry.now.theory.now }
         ensures stepped { Stepped manager.old.register manager.new.register self.old self.new }
         ensures saturates { Saturates (meaning T.Theory inquiry.now.theory.now) (ask inquiry.now.predicates.now inquiry.now.goals.now) manager.old.register.now manager.new.register.now result }
     {
@@ -170,14 +170,12 @@ impl Work<'_> {
 // A saturation in the two halves of the part of a work slice that it uses, which are zeroed first, and by the guard again.
 fn guarded<T: Theory>(
     manager: &mut Manager<'_, '_, '_>,
-    inquiry: &Inquiry<'_, T>,
+    inquiry: &Checked<'_, T>,
     standing: &mut [u32],
     gathered: &mut [u32],
 ) -> Result<(u16, u16), NoRoom>
     requires standing { length standing.old ≡ T.Theory.facts inquiry.now.theory.now + 1 }
     requires gathered { length gathered.old ≡ T.Theory.facts inquiry.now.theory.now + 1 }
-    requires few { length inquiry.now.predicates.now ≤ 16 }
-    requires facts { (k : ℕ) → k < length inquiry.now.predicates.now → slice_index inquiry.now.predicates.now k < T.Theory.facts inquiry.now.theory.now }
     ensures held { manager.new.register.ghost_name ≡ manager.old.register.ghost_name }
     ensures enlarged { Enlarged manager.old.register.now manager.new.register.now }
     ensures standing { standing.new ≡ replicate (length standing.old) 0 }
@@ -194,7 +192,7 @@ fn guarded<T: Theory>(
 // does not pay for the largest.
 pub(crate) fn within<T: Theory, const HEADS: usize, const ROWS: usize, const PAIRS: usize>(
     register: &mut Register<'_, Row>,
-    inquiry: &Inquiry<'_, T>,
+    inquiry: &Checked<'_, T>,
     numbers: &mut [u32],
 ) -> Result<(u16, u16), NoRoom>
     requires kept { KeptBook register.old.rows.now register.old.count }
@@ -203,8 +201,6 @@ pub(crate) fn within<T: Theory, const HEADS: usize, const ROWS: usize, const PAI
     requires few_pairs { PAIRS ≤ 65536 }
     requires rows { capacity register.old.rows.now ≤ ROWS }
     requires used { 2 * (T.Theory.facts inquiry.now.theory.now + 1) ≤ length numbers.old }
-    requires few { length inquiry.now.predicates.now ≤ 16 }
-    requires facts { (k : ℕ) → k < length inquiry.now.predicates.now → slice_index inquiry.now.predicates.now k < T.Theory.facts inquiry.now.theory.now }
     ensures enlarged { Enlarged register.old register.new }
     ensures work { numbers.new ≡ replicate (2 * (T.Theory.facts inquiry.now.theory.now + 1)) 0 ++ drop (2 * (T.Theory.facts inquiry.now.theory.now + 1)) numbers.old }
     ensures saturates { Saturates (meaning T.Theory inquiry.now.theory.now) (ask inquiry.now.predicates.now inquiry.now.goals.now) register.old register.new result }

@@ -9,6 +9,10 @@ use crate::work::Work;
 use diagrams::{NoRoom, Operation};
 use theory::{Conclusion, Rule};
 
+// That the numbers of both halves are held by the book is asked for by each step below. A struct of the manager and the halves
+// could say it once, but is not covered ("a call at a lifetime and at an intersection of lifetimes of which that one is a
+// part"); nor is one of all their slices ("a place is written behind a reference that is lent").
+
 // Unites the set of a slot with the set of a number.
 fn gather(
     manager: &mut Manager<'_, '_, '_>,

@@ -22,18 +22,11 @@ fn slot(slots: usize, a: u16, b: u16) -> usize
 pub(crate) fn look_up(table: &[Entry], a: u16, b: u16) -> Option<u16>
     ensures { IfSome result (λ n. Recalls table.now a b n) }
 {
-    let at = slot(table.len(), a, b);
-    if at >= table.len() {
-        return None;
-    }
-    let e = table[at];
-    if e.left == a && e.right == b {
-        Some(e.result)
-    } else {
-        None
-    }
+    let entry = *table.get(slot(table.len(), a, b))?;
+    (entry.left == a && entry.right == b).then_some(entry.result)
 }
 
+// Writes the result for two numbers down, the lesser first, in place of another.
 pub(crate) fn write_down(table: &mut [Entry], a: u16, b: u16, res: u16)
     ensures { Writes table.old a b res table.new }
 {

@@ -2,7 +2,7 @@ use Rattle.std.proofs.Common.{Ok, Err, sym, subst}
 use Rattle.diagrams.specs.Making.{Adds}
 use Rattle.diagrams.specs.Books.{union_or_intersection}
 use Rattle.diagrams.proofs.Applied.{shortened, broken, below, falls_without, without_full, held_without, held_later, falls_with, with_full, fit, done}
-use Rattle.book.proofs.Grown.{ready, grown_none, grown_more}
+use Rattle.book.proofs.Grown.{ready, grown_none}
 use Rattle.book.proofs.Recalling.{recalled, table_right, right_entry}
 use Rattle.book.proofs.manager.Manager.+apply.Goals as goal
 

@@ -1,6 +1,5 @@
-use Rattle.std.proofs.Common.{sym, ◌∙◌, subst, arith}
-use Rattle.theory.specs.Theory.{Names, conclusion}
-use Rattle.saturation.specs.Stages.{slot}
+use Rattle.std.proofs.Common.{◌∙◌, arith}
+use Rattle.theory.specs.Theory.{conclusion}
 use Rattle.saturation.proofs.Placing.{slot_below, concluded_known, premises_full}
 use Rattle.book.proofs.Failing.{failed}
 use Rattle.book.proofs.Meeting.{place_gathered, names_of, slot_of_known}

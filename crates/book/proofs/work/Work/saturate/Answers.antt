@@ -16,7 +16,7 @@ returns-in_err-start_predicates-clause-saturates g c =
     let m = meaning g.T.Theory i.theory.now in
     let t = c.args.manager.now.register.now in
     failed c.from_residual.result c.from_residual.ensures.0 _ _
-    (start_full m (ask i.predicates.now i.goals.now) (g.T.Theory.lawful i.theory.now) t.rows.now t.count (c.in_err-start_predicates.ensures.starts m.facts c.requires.facts c.requires.standing))
+    (start_full m (ask i.predicates.now i.goals.now) (g.T.Theory.lawful i.theory.now) t.rows.now t.count (c.in_err-start_predicates.ensures.starts m.facts i.proper.predicates_are_facts c.requires.standing))
 
 pub rounds-requires-clause-standing : goal.rounds-requires-clause-standing
 rounds-requires-clause-standing g c =
@@ -39,7 +39,7 @@ returns-clause-saturates g c =
     let u = c.rounds.new.manager.register.now in
     let w = c.start_goals.new.self.standing.now in
     let b = c.begin.ensures in
-    let at = c.in_ok-start_predicates.ensures.starts m.facts c.requires.facts c.requires.standing in
+    let at = c.in_ok-start_predicates.ensures.starts m.facts i.proper.predicates_are_facts c.requires.standing in
     let olds : Half m.facts t.rows.now t.count w (λ z. start m q z) = starts m ps gs t.rows.now t.count w (c.start_goals.ensures.opposes (started ps (length ps)) t.rows.now t.count at.olds) in
     let halves : BothHalves m.facts t.rows.now t.count c.begin.new.standing c.begin.new.gathered (λ z. start m q z) =
     subst (λ y. BothHalves m.facts t.rows.now t.count c.begin.new.standing y (λ z. start m q z)) (sym b.gathered)
