@@ -1,7 +1,7 @@
 -- What an answer says of its choices.
 --
---   belongs    whether a choice belongs to a number that the book holds
---   choices    how many of the choices over so many positions belong to a number
+--   belongs  whether a choice belongs to a number, which the book has to hold
+--   choices  how many choices over so many positions belong to a number
 use Rattle.std.specs.Prelude.{ℕ, ◌+◌, ◌^◌, Bool, ◌&&◌, List, nat_lt, count_by}
 use Rattle.std.specs.List.{range_with_len}
 use Rattle.diagrams.specs.declared.Row.{Row}

@@ -4,6 +4,8 @@
 --   is_zero             a constant is zero
 --   terms_stated        over so many terms: = and ≠ only, no constant, then what the theory says
 --   differences_stated  over so many variables: ≤ and < only, then what the theory says
+--   in_front            a fact in front of others, or the refusal of the first that is refused
+--   all_stated          the facts of statements, in their order, or why the first that is refused is
 use Rattle.std.specs.Prelude.{ℕ, Bool, false, cond, ℤ, pos, negsuc, List, [], ◌∷◌, Ok, Err, Result, ◌==◌}
 use Rattle.theory.specs.declared.faults.FactFault.{FactFault}
 use Rattle.terms.specs.declared.equal.Relation.TheVariants.{Equal as same, Different as other}
@@ -43,14 +45,11 @@ differences_by Below v s = from_fact (fact_made v below s.left s.right s.constan
 abbrev pub differences_stated : ℕ → Statement → Result ℕ Fault
 differences_stated v s = differences_by s.relation v s
 
-abbrev and_then : ℕ → Result (List ℕ) Fault → Result (List ℕ) Fault
-and_then n (Ok ns) = Ok (n ∷ ns)
-and_then n (Err fault) = Err fault
-
-abbrev pub with_first : Result ℕ Fault → Result (List ℕ) Fault → Result (List ℕ) Fault
-with_first (Ok n) rest = and_then n rest
-with_first (Err fault) rest = Err fault
+abbrev pub in_front : Result ℕ Fault → Result (List ℕ) Fault → Result (List ℕ) Fault
+in_front (Ok n) (Ok ns) = Ok (n ∷ ns)
+in_front (Ok n) (Err fault) = Err fault
+in_front (Err fault) rest = Err fault
 
 abbrev pub all_stated : (Statement → Result ℕ Fault) → List Statement → Result (List ℕ) Fault
 all_stated stated [] = Ok []
-all_stated stated (s ∷ ss) = with_first (stated s) (all_stated stated ss)
+all_stated stated (s ∷ ss) = in_front (stated s) (all_stated stated ss)

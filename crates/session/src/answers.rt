@@ -1,4 +1,4 @@
-ghost use Rattle.std.specs.Prelude.{◌≡◌, ℕ, ◌+◌, ◌-◌, ◌<◌, ◌≤◌, length, ◌≢◌, slice_index};
+ghost use Rattle.std.specs.Prelude.{◌≡◌, ℕ, ◌+◌, ◌-◌, ◌*◌, ◌<◌, ◌≤◌, IfOk, length, ◌≢◌, slice_index};
 ghost use Rattle.session.specs.Answers.{choices};
 
 use book::{Book, Inquiry, QuestionFault};
@@ -29,7 +29,9 @@ pub(crate) fn question<T: Theory>(
     book: &mut Book<'_>,
     inquiry: &Inquiry<'_, T>,
     work: &mut [u32],
-) -> Result<Answer, QuestionFault> {
+) -> Result<Answer, QuestionFault>
+    ensures { IfOk result (λ answer. answer.positions ≡ length inquiry.now.predicates.now) }
+{
     let (number, _) = book.question(inquiry, work)?;
     Ok(Answer {
         number,
@@ -42,7 +44,9 @@ pub(crate) fn abstraction<T: Theory>(
     book: &mut Book<'_>,
     inquiry: &Inquiry<'_, T>,
     work: &mut [u32],
-) -> Result<Answer, QuestionFault> {
+) -> Result<Answer, QuestionFault>
+    ensures { IfOk result (λ answer. answer.positions ≡ 2 * length inquiry.now.predicates.now) }
+{
     let (number, _) = book.abstraction(inquiry, work)?;
     Ok(Answer {
         number,

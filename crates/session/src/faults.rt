@@ -31,6 +31,8 @@ impl Refusal for Fault {
     }
 }
 
+// The kit's derive `thiserror` writes a `From` without a contract, and clauses name the fault that a `?` makes: so each
+// conversion is written out.
 impl From<RecordFault> for Fault {
     ghost from_gives = { λ fault r. r ≡ ofRecord fault };
 

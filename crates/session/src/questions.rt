@@ -1,6 +1,7 @@
-ghost use Rattle.std.specs.Prelude.{◌≡◌, ◌<◌, OnErr};
+ghost use Rattle.std.specs.Prelude.{◌≡◌, ◌<◌, [], IfSome, IsSome, IfOk, OnErr, is_ok, if◌then◌else◌};
 ghost use Rattle.arrayvec.specs.ArrayVec.{array_vec_len};
 ghost use Rattle.records.specs.Pending.{predicates_of, goals_of};
+ghost use Rattle.session.specs.Taking.{facts_refused};
 
 use crate::answers::{Answer, first_ordinal};
 use crate::faults::Fault;
@@ -30,8 +31,10 @@ impl Questions<'_> {
     >(&mut self, theory: &T, ask: F) -> Result<Option<Line>, Fault>
         requires room { array_vec_len self.old.answers < 256 }
         requires ask { F.IsAlwaysCallable ask }
-        ensures predicates { OnErr result (predicates_of self.new.pending ≡ predicates_of self.old.pending) }
-        ensures goals { OnErr result (goals_of self.new.pending ≡ goals_of self.old.pending) }
+        ensures refused { IfSome (facts_refused (T.stated theory.now) (predicates_of self.old.pending) (goals_of self.old.pending)) (λ fault. result ≡ Err fault) }
+        ensures predicates { predicates_of self.new.pending ≡ (if is_ok result then [] else predicates_of self.old.pending) }
+        ensures goals { goals_of self.new.pending ≡ (if is_ok result then [] else goals_of self.old.pending) }
+        ensures line { IfOk result IsSome }
         ensures answers { OnErr result (self.new.answers.items ≡ self.old.answers.items) }
     {
         let predicates = facts_of::<T, 16>(theory, self.pending.predicates())?;
@@ -48,6 +51,8 @@ impl Questions<'_> {
     // Gives the answer its ordinal and its line, and lets what waited go.
     fn note(&mut self, answer: Answer) -> Line
         requires { array_vec_len self.old.answers < 256 }
+        ensures predicates { predicates_of self.new.pending ≡ [] }
+        ensures goals { goals_of self.new.pending ≡ [] }
     {
         let first = first_ordinal(self.answers.as_slice(), answer.number);
         self.answers.push(answer.number);

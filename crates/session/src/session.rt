@@ -1,5 +1,7 @@
-ghost use Rattle.std.specs.Prelude.{◌≡◌, [], OnErr};
+ghost use Rattle.std.specs.Prelude.{◌≡◌, [], IfSome, IfOk, OnErr, is_ok, is_some, if◌then◌else◌};
 ghost use Rattle.records.specs.Pending.{predicates_of, goals_of};
+ghost use Rattle.records.specs.Records.{record_of};
+ghost use Rattle.session.specs.Taking.{first_refusal, predicates_after, goals_after, asks};
 
 use crate::answers::{abstraction, question};
 use crate::faults::Fault;
@@ -69,9 +71,11 @@ impl Session<'_> {
     // Takes one record: nothing to print for a term, a predicate or a goal, the answer's line for a question or an
     // abstraction. A refused record leaves what waits.
     pub fn take(&mut self, bytes: &[u8]) -> Result<Option<Line>, Fault>
-        ensures predicates { OnErr result (predicates_of self.new.questions.pending ≡ predicates_of self.old.questions.pending) }
-        ensures goals { OnErr result (goals_of self.new.questions.pending ≡ goals_of self.old.questions.pending) }
+        ensures refused { IfSome (first_refusal self.old (record_of bytes.now)) (λ fault. result ≡ Err fault) }
+        ensures predicates { predicates_of self.new.questions.pending ≡ (if is_ok result then predicates_after (record_of bytes.now) (predicates_of self.old.questions.pending) else predicates_of self.old.questions.pending) }
+        ensures goals { goals_of self.new.questions.pending ≡ (if is_ok result then goals_after (record_of bytes.now) (goals_of self.old.questions.pending) else goals_of self.old.questions.pending) }
         ensures answers { OnErr result (self.new.questions.answers.items ≡ self.old.questions.answers.items) }
+        ensures line { IfOk result (λ line. is_some line ≡ asks (record_of bytes.now)) }
     {
         match read(bytes)? {
             Record::Term {

@@ -1,4 +1,4 @@
-use Rattle.std.proofs.Common.{◌≡◌, ℕ, length, take, Ok}
+use Rattle.std.proofs.Common.{◌≡◌, take, Ok}
 use Rattle.arrayvec.specs.ArrayVec.{array_vec_len}
 use Rattle.session.specs.Stated.{all_stated}
 use Rattle.session.proofs.stated.facts_of.Given as goal
