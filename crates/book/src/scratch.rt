@@ -3,7 +3,8 @@ ghost use Rattle.book.specs.Scratch.{Recalls, Writes, Notes, table_of};
 
 use diagrams::Operation;
 
-// A union or an intersection that was computed before.
+// A union or an intersection that was computed before. An empty entry has zeros, which are no numbers of rows: an `Option` would
+// take a third more of the stack, all of which each call zeroes.
 #[derive(Clone, Copy, Default)]
 pub struct Entry {
     left: u16,

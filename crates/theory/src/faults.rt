@@ -10,17 +10,26 @@ pub trait Refusal: Copy {
 }
 
 // Why a theory was not made.
-#[derive(Clone, Copy, PartialEq, Eq)]
+#[derive(Clone, Copy, Debug, PartialEq, Eq)]
 pub enum TheoryFault {
     TooManyVariables = 5,
 }
 
 // Why a fact was not made.
-#[derive(Clone, Copy, PartialEq, Eq)]
+#[derive(Clone, Copy, Debug, PartialEq, Eq)]
 pub enum FactFault {
     NoTerm = 6,
     NoVariable = 7,
     ConstantOutOfRange = 8,
+}
+
+// A number stands for itself, so that a tool that holds no more than a number can print it.
+impl Refusal for u8 {
+    ghost number = { λ n. n };
+
+    fn number(self) -> u8 {
+        self
+    }
 }
 
 impl Refusal for TheoryFault {
