@@ -5,3 +5,9 @@ pub mod Pairs
 pub mod Failing
 pub mod Grown
 pub mod Stepping
+pub mod Meeting
+pub mod Answering
+pub mod Holds
+pub mod Settling
+pub mod Passing
+pub mod Ending

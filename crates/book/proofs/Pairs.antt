@@ -1,19 +1,15 @@
 -- The list of predicates and their opposites, place by place.
-use Rattle.std.proofs.Common.{◌≡◌, ℕ, zero, suc, ◌+◌, ◌*◌, ◌<◌, ◌≤◌, ◌⊎◌, List, [], ◌∷◌, length, get_or, take, set, sym, refl, ap, ◌∙◌, subst, inl, inr, ⊎_elim, arith, length-set, length-take-le, get_or-set_other, get_or-take, get_or-set_same, ext_get_or}
-use Rattle.std.proofs.lemmas.Bool.{cases_eq}
+use Rattle.std.proofs.Common.{◌≡◌, ℕ, zero, suc, ◌+◌, ◌*◌, ◌<◌, ◌≤◌, ◌⊎◌, List, [], ◌∷◌, ◌++◌, length, get_or, refl, ap, ◌∙◌, inl, inr, ⊎_elim, arith}
 use Rattle.theory.specs.Theory.{Meaning, Bounded}
 use Rattle.theory.specs.Rounds.{Proper}
 use Rattle.theory.specs.Abstraction.{ask, or_0, with_opposites}
-
--- the first k pairs stand
-abbrev pub Paired : Meaning → List ℕ → List ℕ → ℕ → Type 0
-Paired m ps xs n = (k : ℕ) → k < n → (get_or xs (2 * k) 0 ≡ get_or ps k 0) × (get_or xs (2 * k + 1) 0 ≡ or_0 (m.opposite (get_or ps k 0)))
 
 pub twice_long : (m : Meaning) (ps : List ℕ) → length (with_opposites m ps) ≡ 2 * length ps
 twice_long m [] = refl
 twice_long m (p ∷ ps) = omega (arith, twice_long m ps)
 
-pub pairs_are : (m : Meaning) (ps : List ℕ) → Paired m ps (with_opposites m ps) (length ps)
+pub pairs_are : (m : Meaning) (ps : List ℕ) (k : ℕ) → k < length ps
+    → (get_or (with_opposites m ps) (2 * k) 0 ≡ get_or ps k 0) × (get_or (with_opposites m ps) (2 * k + 1) 0 ≡ or_0 (m.opposite (get_or ps k 0)))
 pairs_are m [] k lt = absurd (omega arith)
 pairs_are m (p ∷ ps) zero lt = (refl, refl)
 pairs_are m (p ∷ ps) (suc k) lt =
@@ -22,45 +18,14 @@ pairs_are m (p ∷ ps) (suc k) lt =
     let h = pairs_are m ps k (omega arith) in
     (ap (λ z. get_or (p ∷ or_0 (m.opposite p) ∷ with_opposites m ps) z 0) e ∙ h.0, ap (λ z. get_or (p ∷ or_0 (m.opposite p) ∷ with_opposites m ps) z 0) f ∙ h.1)
 
-module _ (m : Meaning) (ps xs : List ℕ) (n : ℕ) (lt : 2 * n + 1 < length xs) (h : Paired m ps xs n) where
-  abbrev p : ℕ
-  p = get_or ps n 0
-
-  abbrev o : ℕ
-  o = or_0 (m.opposite p)
-
-  abbrev first : List ℕ
-  first = set xs (2 * n) p
-
-  abbrev both : List ℕ
-  both = set first (2 * n + 1) o
-
-  pub one_pair_more : Paired m ps both (n + 1)
-  one_pair_more k less = ⊎_elim
-      (λ (e : k ≡ n). subst (λ z. (get_or both (2 * z) 0 ≡ get_or ps z 0) × (get_or both (2 * z + 1) 0 ≡ or_0 (m.opposite (get_or ps z 0)))) (sym e) (
-        get_or-set_other first (2 * n + 1) (2 * n) o 0 (λ q. omega (arith, q)) ∙ get_or-set_same xs (2 * n) p 0 (omega (arith, lt)),
-        get_or-set_same first (2 * n + 1) o 0 (simp length-set (omega (arith, lt))),
-      ))
-      (λ ne. let b = h k (omega (arith, less, ne)) in (
-        get_or-set_other first (2 * n + 1) (2 * k) o 0 (λ q. omega (arith, q)) ∙ get_or-set_other xs (2 * n) (2 * k) p 0 (λ q. omega (arith, q, ne)) ∙ b.0,
-        get_or-set_other first (2 * n + 1) (2 * k + 1) o 0 (λ q. omega (arith, q, ne)) ∙ get_or-set_other xs (2 * n) (2 * k + 1) p 0 (λ q. omega (arith, q)) ∙ b.1,
-      ))
-      (cases_eq k n)
+-- a predicate more
+pub one_pair_more : (m : Meaning) (ps : List ℕ) (p : ℕ) → with_opposites m (ps ++ p ∷ []) ≡ with_opposites m ps ++ p ∷ or_0 (m.opposite p) ∷ []
+one_pair_more m [] p = refl
+one_pair_more m (q ∷ ps) p = ap (λ z. q ∷ or_0 (m.opposite q) ∷ z) (one_pair_more m ps p)
 
 even_or_odd : (i : ℕ) → ((k : ℕ) × (i ≡ 2 * k)) ⊎ ((k : ℕ) × (i ≡ 2 * k + 1))
 even_or_odd zero = inl (0, refl)
 even_or_odd (suc i) = ⊎_elim (λ e. inr (e.0, omega (arith, e.1))) (λ e. inl (suc e.0, omega (arith, e.1))) (even_or_odd i)
-
--- all pairs stand: the list is that of predicates and opposites
-pub all_paired : (m : Meaning) (ps xs : List ℕ) → 2 * length ps ≤ length xs → Paired m ps xs (length ps) → take (2 * length ps) xs ≡ with_opposites m ps
-all_paired m ps xs le h =
-    let long : length (take (2 * length ps) xs) ≡ 2 * length ps = length-take-le (2 * length ps) xs le in
-    ext_get_or 0 (take (2 * length ps) xs) (with_opposites m ps) (long ∙ sym (twice_long m ps))
-    (λ i lt. let less : i < 2 * length ps = omega (arith, lt, long) in
-    get_or-take (2 * length ps) xs i 0 less ∙ ⊎_elim
-    (λ e. let k : e.0 < length ps = omega (arith, less, e.1) in ap (λ z. get_or xs z 0) e.1 ∙ (h e.0 k).0 ∙ sym (pairs_are m ps e.0 k).0 ∙ ap (λ z. get_or (with_opposites m ps) z 0) (sym e.1))
-    (λ e. let k : e.0 < length ps = omega (arith, less, e.1) in ap (λ z. get_or xs z 0) e.1 ∙ (h e.0 k).1 ∙ sym (pairs_are m ps e.0 k).1 ∙ ap (λ z. get_or (with_opposites m ps) z 0) (sym e.1))
-    (even_or_odd i))
 
 -- opposites of facts are facts
 pub pairs_are_facts : (m : Meaning) → Bounded m → (ps : List ℕ) → ((k : ℕ) → k < length ps → get_or ps k 0 < m.facts)

@@ -119,19 +119,22 @@ pub table_right : (op : Operation) (rows : List Row) (count : ℕ) (heads next :
 table_right Union rows count heads next unions intersections r = r.unions_right
 table_right Intersection rows count heads next unions intersections r = r.intersections_right
 
--- tables without entries
-empty_at : (size k : ℕ) → entry_at (replicate size (entry 0 0 0)) k ≡ entry 0 0 0
-empty_at size k = ⊎_elim (get_or-replicate size k (entry 0 0 0) (entry 0 0 0)) (λ le. get_or_past (replicate size (entry 0 0 0)) k (entry 0 0 0) (omega (arith, le, length-replicate size (entry 0 0 0)))) (cases_lt k size)
+-- tables of which every entry is one whose numbers are no rows
+none_at : (size k : ℕ) (e : Entry) → e.left ≡ 0 → (entry_at (replicate size e) k).left ≡ 0
+none_at size k e zero = ⊎_elim
+    (λ lt. ap (λ (z : Entry). z.left) (get_or-replicate size k e (entry 0 0 0) lt) ∙ zero)
+    (λ le. ap (λ (z : Entry). z.left) (get_or_past (replicate size e) k (entry 0 0 0) (omega (arith, le, length-replicate size e))))
+    (cases_lt k size)
 
-remembers_nothing : (op : Operation) (rows : List Row) (count size : ℕ) → Remembers op rows count (replicate size (entry 0 0 0))
-remembers_nothing op rows count size k two = absurd (omega (arith, subst (λ (z : Entry). 2 ≤ z.left) (empty_at size k) two))
+remembers_nothing : (op : Operation) (rows : List Row) (count size : ℕ) (e : Entry) → e.left ≡ 0 → Remembers op rows count (replicate size e)
+remembers_nothing op rows count size e zero k two = absurd (omega (arith, none_at size k e zero, two))
 
-pub ready_at_first : {rows : List Row} {count : ℕ} {heads next : List ℕ} (size : ℕ) → KeptBook rows count → Indexed row_hash rows count heads next → capacity rows ≤ length next
-    → Ready rows count heads next (replicate size (entry 0 0 0)) (replicate size (entry 0 0 0))
-ready_at_first {rows} {count} size kept x room = record {
+pub ready_at_first : {rows : List Row} {count : ℕ} {heads next : List ℕ} (size : ℕ) (e f : Entry) → e.left ≡ 0 → f.left ≡ 0 → KeptBook rows count → Indexed row_hash rows count heads next → capacity rows ≤ length next
+    → Ready rows count heads next (replicate size e) (replicate size f)
+ready_at_first {rows} {count} size e f zero-e zero-f kept x room = record {
   kept = kept;
   indexed = x;
   room = room;
-  unions_right = remembers_nothing Union rows count size;
-  intersections_right = remembers_nothing Intersection rows count size;
+  unions_right = remembers_nothing Union rows count size e zero-e;
+  intersections_right = remembers_nothing Intersection rows count size f zero-f;
 }

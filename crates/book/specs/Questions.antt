@@ -7,7 +7,7 @@
 --   Answered               what a question that is answered leaves, and what its answer says
 --   Asked                  what a question leaves: refused by a check, answered, or refused for want of rows
 --   Implied                what the full cases of an abstraction's answer say
-use Rattle.std.specs.Prelude.{◌≡◌, ℕ, ◌+◌, ◌*◌, ◌^◌, ◌<◌, Bool, true, cond, not, ◌&&◌, ◌↔◌, List, [], ◌∷◌, ◌++◌, length, drop, replicate, Some, None, Ok, Err, Option, Result, nat_lt, slice_index}
+use Rattle.std.specs.Prelude.{◌≡◌, ℕ, ◌+◌, ◌*◌, ◌^◌, ◌<◌, Bool, true, cond, not, ◌&&◌, ◌↔◌, List, [], ◌∷◌, ◌++◌, length, drop, replicate, Some, None, Ok, Err, Option, Result, nat_lt}
 use Rattle.theory.specs.Theory.{Meaning}
 use Rattle.theory.specs.Rounds.{Question, Derives, Impossible, RoundCount}
 use Rattle.theory.specs.Abstraction.{FullCase, Implies}

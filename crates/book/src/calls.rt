@@ -1,13 +1,13 @@
 ghost use Rattle.std.specs.Prelude.{◌≡◌, ◌+◌, ◌/◌, ◌%◌, ◌^◌, ◌<◌, ◌≤◌, ◌≢◌, IsTrue};
 ghost use Rattle.register.specs.Rows.{Cleared};
-ghost use Rattle.diagrams.specs.Diagram.{Sound, CanonicalRows, blank, member};
+ghost use Rattle.diagrams.specs.Diagram.{CanonicalRows, blank, member};
 ghost use Rattle.diagrams.specs.Books.{opening, book_of};
 ghost use Rattle.book.specs.Calls.{Reads};
 ghost use Rattle.book.specs.Runs.{Begins, GoesOn, reading};
 
-use crate::manager::MOST_ROWS;
 use crate::book::Book;
 use crate::faults::BookFault;
+use crate::manager::MOST_ROWS;
 use diagrams::Row;
 use register::Register;
 
@@ -38,19 +38,6 @@ fn side(row: Row, choice: u16) -> u16
     if chosen { row.with } else { row.without }
 }
 
-// Follows the rows from a number to 0 or 1. Positions rise from row to row, so there are at most 16 of them.
-fn follow(rows: &[Row], count: u16, number: u16, choice: u16) -> bool
-    requires sound { Sound rows.now count }
-    requires held { number < count + 2 }
-    ensures { result ≡ member rows.now number choice }
-{
-    let mut n = number;
-    while n >= 2 {
-        n = side(rows[(n - 2) as usize], choice);
-    }
-    n == 1
-}
-
 impl<'a> Book<'a> {
     // An empty book over lent rows: the first 65,534, or all if fewer, are zeroed, the others untouched.
     pub fn open(rows: &'a mut [Row]) -> Book<'a>
@@ -77,6 +64,18 @@ impl<'a> Book<'a> {
         number < 2 || number - 2 < self.lent.count
     }
 
+    // Follows the rows from a held number to 0 or 1. Positions rise from row to row, so there are at most 16 of them.
+    fn follow(&self, number: u16, choice: u16) -> bool
+        requires { number < self.now.lent.count + 2 }
+        ensures { result ≡ member self.now.lent.rows.now number choice }
+    {
+        let mut n = number;
+        while n >= 2 {
+            n = side(self.lent.rows[n as usize - 2], choice);
+        }
+        n == 1
+    }
+
     // Whether a choice belongs to a number.
     pub fn read(&self, number: u16, choice: u16) -> Result<bool, BookFault>
         ensures reads { Reads self.now.lent.rows.now self.now.lent.count number choice result }
@@ -86,6 +85,6 @@ impl<'a> Book<'a> {
         if !self.holds(number) {
             return Err(BookFault::NotHeld);
         }
-        Ok(follow(self.lent.rows, self.lent.count, number, choice))
+        Ok(self.follow(number, choice))
     }
 }

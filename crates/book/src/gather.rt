@@ -9,6 +9,10 @@ use crate::work::Work;
 use diagrams::{NoRoom, Operation};
 use theory::{Conclusion, Rule};
 
+// That the numbers of both halves are held by the book is asked for by each step below. A struct of the manager and the halves
+// could say it once, but is not covered ("a call at a lifetime and at an intersection of lifetimes of which that one is a
+// part"); nor is one of all their slices ("a place is written behind a reference that is lent").
+
 // Unites the set of a slot with the set of a number.
 fn gather(
     manager: &mut Manager<'_, '_, '_>,
@@ -96,7 +100,11 @@ impl Work<'_> {
     }
 
     // One place: what the premises of its rule have together is united with what its conclusion has gathered.
-    pub(crate) fn derive(&mut self, manager: &mut Manager<'_, '_, '_>, rule: Rule) -> Result<(), NoRoom>
+    pub(crate) fn derive(
+        &mut self,
+        manager: &mut Manager<'_, '_, '_>,
+        rule: Rule,
+    ) -> Result<(), NoRoom>
         requires standing { Holding self.old.standing.now manager.old.register.now.count }
         requires gathered { Holding self.old.gathered.now manager.old.register.now.count }
         requires names { Names (length self.old.standing.now - 1) rule }

@@ -1,4 +1,7 @@
 ghost use Rattle.std.specs.Prelude.{◌≡◌, None, Some, MatchResult, length};
+ghost use Rattle.theory.specs.Abstraction.{ask};
+ghost use Rattle.theory.specs.Means.{meaning};
+ghost use Rattle.theory.specs.Rounds.{Proper};
 ghost use Rattle.book.specs.Questions.{all_facts, first_fault};
 
 use crate::faults::QuestionFault;
@@ -41,4 +44,13 @@ impl<T: Theory> Inquiry<'_, T> {
         }
         Ok(())
     }
+}
+
+// An inquiry that has passed its checks: it has few predicates and goals, and all of them are facts.
+#[derive(Drop)]
+pub(crate) struct Checked<'q, T: Theory> {
+    pub(crate) theory: &'q T,
+    pub(crate) predicates: &'q [u16],
+    pub(crate) goals: &'q [u16],
+    ghost proper: { Proper (meaning T.Theory theory.now) (ask predicates.now goals.now) },
 }

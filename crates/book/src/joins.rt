@@ -14,6 +14,8 @@ use diagrams::{NoRoom, Operation, Row};
 use register::Register;
 
 // A union or an intersection with an index and tables of its own, on the stack.
+// The arrays stand here and in `fixpoint::within`: a struct of them is not covered ("an array whose length or element is a
+// parameter .. is .. put in a struct"), and a closure that is lent the manager would say less plainly what it leaves.
 fn within<const HEADS: usize, const ROWS: usize, const PAIRS: usize>(
     register: &mut Register<'_, Row>,
     op: Operation,
@@ -47,6 +49,7 @@ fn within<const HEADS: usize, const ROWS: usize, const PAIRS: usize>(
 
 impl Book<'_> {
     // The index is as large as the book.
+    #[tactic(auto, using(diagrams::proofs::Leaves::kept_out))]
     fn join_sized(&mut self, op: Operation, left: u16, right: u16) -> Result<u16, NoRoom>
         requires left { left < self.old.lent.count + 2 }
         requires right { right < self.old.lent.count + 2 }

@@ -8,8 +8,8 @@ ghost use Rattle.diagrams.specs.declared.Operation.TheVariants.{Union, Intersect
 ghost use Rattle.book.specs.Scratch.{entry, table_of, Recalls, Right, Remembers};
 ghost use Rattle.book.specs.Growing.{Enlarged};
 
-use crate::shortcuts::{merge, row_of, short};
 use crate::scratch::{Entry, look_up, write_down};
+use crate::shortcuts::{merge, row_of, short};
 use diagrams::{NoRoom, Operation, Row};
 use register::{Index, Register};
 
@@ -133,7 +133,12 @@ impl Manager<'_, '_, '_> {
     {
         match op {
             Operation::Union => write_down(self.unions, a.min(b), a.max(b), result_number),
-            Operation::Intersection => write_down(self.intersections, a.min(b), a.max(b), result_number),
+            Operation::Intersection => write_down(
+                self.intersections,
+                a.min(b),
+                a.max(b),
+                result_number,
+            ),
         }
     }
 

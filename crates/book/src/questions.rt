@@ -2,7 +2,7 @@ ghost use Rattle.std.specs.Prelude.{◌≡◌, ℕ, ◌+◌, ◌*◌, ◌<◌, �
 ghost use Rattle.theory.specs.Abstraction.{ask, or_0, with_opposites};
 ghost use Rattle.theory.specs.Means.{meaning};
 ghost use Rattle.theory.specs.Rounds.{Proper};
-ghost use Rattle.diagrams.specs.Books.{KeptBook, book_of};
+ghost use Rattle.diagrams.specs.Books.{book_of};
 ghost use Rattle.book.specs.Growing.{Enlarged};
 ghost use Rattle.book.specs.Questions.{first_fault, work_after, Asked, Implied};
 ghost use Rattle.book.specs.Runs.{GoesOn, question, abstraction};
@@ -12,60 +12,58 @@ use crate::book::Book;
 use crate::calls::give_back;
 use crate::faults::QuestionFault;
 use crate::fixpoint::within;
-use crate::inquiry::Inquiry;
-use diagrams::{NoRoom, Row};
-use register::Register;
+use crate::inquiry::{Checked, Inquiry};
+use arrayvec::ArrayVec;
+use diagrams::NoRoom;
 use theory::Theory;
 
 // A book of more rows has the largest index.
 const MANY_ROWS: usize = 4096;
 
-// Chooses the sizes of a question's tables: light ones for few places and predicates, and an index as large as the book.
-fn sized<T: Theory>(
-    register: &mut Register<'_, Row>,
-    inquiry: &Inquiry<'_, T>,
-    numbers: &mut [u32],
-) -> Result<(u16, u16), NoRoom>
-    requires kept { KeptBook register.old.rows.now register.old.count }
-    requires used { 2 * (T.Theory.facts inquiry.now.theory.now + 1) ≤ length numbers.old }
-    requires few { length inquiry.now.predicates.now ≤ 16 }
-    requires facts { (k : ℕ) → k < length inquiry.now.predicates.now → slice_index inquiry.now.predicates.now k < T.Theory.facts inquiry.now.theory.now }
-    ensures enlarged { Enlarged register.old register.new }
-    ensures work { numbers.new ≡ replicate (2 * (T.Theory.facts inquiry.now.theory.now + 1)) 0 ++ drop (2 * (T.Theory.facts inquiry.now.theory.now + 1)) numbers.old }
-    ensures saturates { Saturates (meaning T.Theory inquiry.now.theory.now) (ask inquiry.now.predicates.now inquiry.now.goals.now) register.old register.new result }
-{
-    if register.rows.len() > MANY_ROWS {
-        return within::<T, 32768, 65536, 16384>(register, inquiry, numbers);
-    }
-    if inquiry.theory.places() > 16384 || inquiry.predicates.len() > 10 {
-        return within::<T, 8192, 4096, 16384>(register, inquiry, numbers);
-    }
-    within::<T, 4096, 4096, 2048>(register, inquiry, numbers)
-}
-
-// A question that has passed its checks. Rows that do not fit are all given back.
-fn answer<T: Theory>(
-    register: &mut Register<'_, Row>,
-    inquiry: &Inquiry<'_, T>,
-    numbers: &mut [u32],
-) -> Result<(u16, u16), QuestionFault>
-    requires kept { KeptBook register.old.rows.now register.old.count }
-    requires used { 2 * (T.Theory.facts inquiry.now.theory.now + 1) ≤ length numbers.old }
-    requires proper { Proper (meaning T.Theory inquiry.now.theory.now) (ask inquiry.now.predicates.now inquiry.now.goals.now) }
-    ensures held { register.new.rows.ghost_name ≡ register.old.rows.ghost_name }
-    ensures kept { KeptBook register.new.rows.now register.new.count }
-    ensures asked { Asked (meaning T.Theory inquiry.now.theory.now) (ask inquiry.now.predicates.now inquiry.now.goals.now) None (book_of register.old.rows.now register.old.count) (book_of register.new.rows.now register.new.count) result }
-    ensures work { numbers.new ≡ replicate (2 * (T.Theory.facts inquiry.now.theory.now + 1)) 0 ++ drop (2 * (T.Theory.facts inquiry.now.theory.now + 1)) numbers.old }
-{
-    let before = register.count;
-    let Ok(pair) = sized(register, inquiry, numbers) else {
-        give_back(register, before);
-        return Err(QuestionFault::Full);
-    };
-    Ok(pair)
-}
+// A question has at most so many predicates, an abstraction, which makes two of each, half as many.
+const MOST_PREDICATES: usize = 16;
 
 impl Book<'_> {
+    // Chooses the sizes of a question's tables: light ones for few places and predicates, and an index as large as the book.
+    #[tactic(auto, using(diagrams::proofs::Leaves::kept_out))]
+    fn sized<T: Theory>(
+        &mut self,
+        inquiry: &Checked<'_, T>,
+        numbers: &mut [u32],
+    ) -> Result<(u16, u16), NoRoom>
+        requires used { 2 * (T.Theory.facts inquiry.now.theory.now + 1) ≤ length numbers.old }
+        ensures enlarged { Enlarged self.old.lent self.new.lent }
+        ensures work { numbers.new ≡ replicate (2 * (T.Theory.facts inquiry.now.theory.now + 1)) 0 ++ drop (2 * (T.Theory.facts inquiry.now.theory.now + 1)) numbers.old }
+        ensures saturates { Saturates (meaning T.Theory inquiry.now.theory.now) (ask inquiry.now.predicates.now inquiry.now.goals.now) self.old.lent self.new.lent result }
+    {
+        if self.lent.rows.len() > MANY_ROWS {
+            return within::<T, 32768, 65536, 16384>(&mut self.lent, inquiry, numbers);
+        }
+        if inquiry.theory.places() > 16384 || inquiry.predicates.len() > 10 {
+            return within::<T, 8192, 4096, 16384>(&mut self.lent, inquiry, numbers);
+        }
+        within::<T, 4096, 4096, 2048>(&mut self.lent, inquiry, numbers)
+    }
+
+    // A question that has passed its checks. Rows that do not fit are all given back.
+    fn answer<T: Theory>(
+        &mut self,
+        inquiry: &Checked<'_, T>,
+        numbers: &mut [u32],
+    ) -> Result<(u16, u16), QuestionFault>
+        requires used { 2 * (T.Theory.facts inquiry.now.theory.now + 1) ≤ length numbers.old }
+        ensures held { self.new.lent.rows.ghost_name ≡ self.old.lent.rows.ghost_name }
+        ensures asked { Asked (meaning T.Theory inquiry.now.theory.now) (ask inquiry.now.predicates.now inquiry.now.goals.now) None (book_of self.old.lent.rows.now self.old.lent.count) (book_of self.new.lent.rows.now self.new.lent.count) result }
+        ensures work { numbers.new ≡ replicate (2 * (T.Theory.facts inquiry.now.theory.now + 1)) 0 ++ drop (2 * (T.Theory.facts inquiry.now.theory.now + 1)) numbers.old }
+    {
+        let before = self.lent.count;
+        let Ok(pair) = self.sized(inquiry, numbers) else {
+            give_back(&mut self.lent, before);
+            return Err(QuestionFault::Full);
+        };
+        Ok(pair)
+    }
+
     // Which choices of the predicates are impossible together with every goal being false: the number of their set, and
     // the most rounds that one of the choices gained in.
     pub fn question<T: Theory>(
@@ -78,8 +76,13 @@ impl Book<'_> {
         ensures continues { GoesOn (book_of self.old.lent.rows.now self.old.lent.count) (question (meaning T.Theory inquiry.now.theory.now) inquiry.now.predicates.now inquiry.now.goals.now (length work.old)) result (book_of self.new.lent.rows.now self.new.lent.count) }
         ensures work { work.new ≡ work_after (T.Theory.facts inquiry.now.theory.now) (first_fault (T.Theory.facts inquiry.now.theory.now) 16 inquiry.now.predicates.now inquiry.now.goals.now (length work.old)) work.old }
     {
-        inquiry.check(16, work.len())?;
-        answer(&mut self.lent, inquiry, work)
+        inquiry.check(MOST_PREDICATES, work.len())?;
+        let checked = Checked {
+            theory: inquiry.theory,
+            predicates: inquiry.predicates,
+            goals: inquiry.goals,
+        };
+        self.answer(&checked, work)
     }
 }
 
@@ -92,15 +95,15 @@ fn pair_of<T: Theory>(theory: &T, predicate: u16) -> (u16, u16)
 }
 
 // Each predicate at an even position, and its opposite behind it.
-fn with_opposites<T: Theory>(theory: &T, predicates: &[u16]) -> [u16; 16]
+fn with_opposites<T: Theory>(theory: &T, predicates: &[u16]) -> ArrayVec<u16, MOST_PREDICATES>
     requires { length predicates.now ≤ 8 }
-    ensures { take (2 * length predicates.now) result ≡ with_opposites (meaning T.Theory theory.now) predicates.now }
+    ensures { result.items ≡ with_opposites (meaning T.Theory theory.now) predicates.now }
 {
-    let mut pairs = [0u16; 16];
-    for (k, predicate) in predicates.iter().enumerate() {
+    let mut pairs = ArrayVec::new();
+    for predicate in predicates {
         let (first, second) = pair_of(theory, *predicate);
-        pairs[2 * k] = first;
-        pairs[2 * k + 1] = second;
+        pairs.push(first);
+        pairs.push(second);
     }
     pairs
 }
@@ -119,13 +122,13 @@ impl Book<'_> {
         ensures continues { GoesOn (book_of self.old.lent.rows.now self.old.lent.count) (abstraction (meaning T.Theory inquiry.now.theory.now) inquiry.now.predicates.now inquiry.now.goals.now (length work.old)) result (book_of self.new.lent.rows.now self.new.lent.count) }
         ensures work { work.new ≡ work_after (T.Theory.facts inquiry.now.theory.now) (first_fault (T.Theory.facts inquiry.now.theory.now) 8 inquiry.now.predicates.now inquiry.now.goals.now (length work.old)) work.old }
     {
-        inquiry.check(8, work.len())?;
+        inquiry.check(MOST_PREDICATES / 2, work.len())?;
         let pairs = with_opposites(inquiry.theory, inquiry.predicates);
-        let paired = Inquiry {
+        let paired = Checked {
             theory: inquiry.theory,
-            predicates: &pairs[..2 * inquiry.predicates.len()],
+            predicates: &pairs,
             goals: inquiry.goals,
         };
-        answer(&mut self.lent, &paired, work)
+        self.answer(&paired, work)
     }
 }

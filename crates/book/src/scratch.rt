@@ -3,7 +3,8 @@ ghost use Rattle.book.specs.Scratch.{Recalls, Writes, Notes, table_of};
 
 use diagrams::Operation;
 
-// A union or an intersection that was computed before.
+// A union or an intersection that was computed before. An empty entry has zeros, which are no numbers of rows: an `Option` would
+// take a third more of the stack, all of which each call zeroes.
 #[derive(Clone, Copy, Default)]
 pub struct Entry {
     left: u16,
@@ -22,18 +23,11 @@ fn slot(slots: usize, a: u16, b: u16) -> usize
 pub(crate) fn look_up(table: &[Entry], a: u16, b: u16) -> Option<u16>
     ensures { IfSome result (λ n. Recalls table.now a b n) }
 {
-    let at = slot(table.len(), a, b);
-    if at >= table.len() {
-        return None;
-    }
-    let e = table[at];
-    if e.left == a && e.right == b {
-        Some(e.result)
-    } else {
-        None
-    }
+    let entry = *table.get(slot(table.len(), a, b))?;
+    (entry.left == a && entry.right == b).then_some(entry.result)
 }
 
+// Writes the result for two numbers down, the lesser first, in place of another.
 pub(crate) fn write_down(table: &mut [Entry], a: u16, b: u16, res: u16)
     ensures { Writes table.old a b res table.new }
 {

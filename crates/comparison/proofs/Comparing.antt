@@ -1,6 +1,7 @@
 -- Steps of a run one after the other, what a part of a join counts with, and what equal numbers tell.
-use Rattle.std.proofs.Common.{◌≡◌, ℕ, Bool, true, false, cond, eqb, ◌⊎◌, List, [], ◌∷◌, ◌++◌, Some, Ok, Err, Result, sym, refl, ap, ◌∙◌, subst, inl, inr, ⊎_elim}
+use Rattle.std.proofs.Common.{◌≡◌, ℕ, Bool, true, false, cond, eqb, ◌⊎◌, List, [], ◌∷◌, ◌++◌, Some, sym, refl, ap, ◌∙◌, subst, inl, inr, ⊎_elim}
 use mathlib.Core.Logic.Iff
+use mathlib.Core.List.Memᴰ
 use mathlib.Core.List.{Memᴰ}
 use Rattle.std.proofs.lemmas.Bool.{true≢false, eqb-true, eq-eqb}
 use Rattle.diagrams.specs.declared.Operation.{Operation}
@@ -8,25 +9,17 @@ use Rattle.diagrams.specs.declared.Operation.TheVariants.{Union, Intersection}
 use Rattle.diagrams.specs.Books.{Book}
 use Rattle.book.specs.Runs.{GivenFor, together_of, Same, Given, given, first_given, else_read, part, Run}
 use Rattle.runs.proofs.Telling.{equal_numbers_equal_choices}
-use Rattle.comparison.specs.Comparing.{Gives, GivesJoin, Later, Leads, Tells, Compared}
+use Rattle.comparison.specs.Comparing.{Leads, Tells, Compared}
 
--- one call after another
-pub leads_on : (b b₁ b₂ : Book) → Leads b b₁ → Leads b₁ b₂ → Leads b b₂
-leads_on b b₁ b₂ f g before run =
-    let x = f before run in
-    let y = g x.so_far x.run in
-    record { so_far = y.so_far; run = y.run; earlier = λ z m. y.earlier z (x.earlier z m) }
+-- a call that is a step of each run, whatever number it gives
+pub goes_leads : {b b' : Book} {new : List Given → List Given} → ((before : List Given) → Run b before → Run b' (before ++ new before)) → Leads b b'
+goes_leads {new = new} goes before run = record { so_far = before ++ new before; run = goes before run; earlier = λ z m. Memᴰ.append_left (new before) m }
 
-later : (b : Book) (before new : List Given) → Run b (before ++ new) → Later b before
-later b before new run = record { so_far = before ++ new; run = run; earlier = λ z m. mathlib.Core.List.Memᴰ.append_left new m }
-
-pub gives_leads : {E : Type 0} (b : Book) (r : Result ℕ E) (b' : Book) (s : GivenFor) → Gives b r b' s → Leads b b'
-gives_leads b (Ok n) b' s h before run = later b' before (given n s ∷ []) (h before run)
-gives_leads b (Err e) b' s h before run = later b' before [] (h before run)
-
-pub join_leads : {E : Type 0} (op : Operation) (x y : ℕ) (b : Book) (r : Result ℕ E) (b' : Book) → GivesJoin op x y b r b' → Leads b b'
-join_leads op x y b (Ok n) b' h before run = later b' before (given n (together_of op (part before b x) (part before b y)) ∷ []) (h before run)
-join_leads op x y b (Err e) b' h before run = later b' before [] (h before run)
+-- one call, and what comes after it
+pub leads_on : {b b₁ b₂ : Book} {new : List Given → List Given} → ((before : List Given) → Run b before → Run b₁ (before ++ new before)) → Leads b₁ b₂ → Leads b b₂
+leads_on {new = new} goes after before run =
+    let x = after (before ++ new before) (goes before run) in
+    record { so_far = x.so_far; run = x.run; earlier = λ z m. x.earlier z (Memᴰ.append_left (new before) m) }
 
 same_trans : (s t u : GivenFor) → Same s t → Same t u → Same s u
 same_trans s t u f g c lt = Iff.trans (f c lt) (g c lt)
@@ -48,22 +41,22 @@ found_here : (g : Given) (gs : List Given) (n : ℕ) → eqb g.number n ≡ true
 found_here g gs n e = record {
   choices = g.choices;
   first = ap (λ z. cond z (Some g.choices) (first_given gs n)) e;
-  one_of = subst (λ k. Memᴰ (given k g.choices) (g ∷ gs)) (eqb-true g.number n e) (mathlib.Core.List.Memᴰ.head refl);
+  one_of = subst (λ k. Memᴰ (given k g.choices) (g ∷ gs)) (eqb-true g.number n e) (Memᴰ.head refl);
 }
 
 found_behind : (g : Given) (gs : List Given) (n : ℕ) → eqb g.number n ≡ false → Found gs n → Found (g ∷ gs) n
 found_behind g gs n e f = record {
   choices = f.choices;
   first = ap (λ z. cond z (Some g.choices) (first_given gs n)) e ∙ f.first;
-  one_of = mathlib.Core.List.Memᴰ.tail f.one_of;
+  one_of = Memᴰ.tail f.one_of;
 }
 
 is_here : (g : Given) (n : ℕ) (s : GivenFor) → given n s ≡ g → eqb g.number n ≡ true
 is_here g n s e = eq-eqb g.number n (ap (λ (z : Given). z.number) (sym e))
 
 found : (gs : List Given) (n : ℕ) (s : GivenFor) → Memᴰ (given n s) gs → Found gs n
-found [] n s m = absurd (mathlib.Core.List.Memᴰ.not-nil m)
-found (g ∷ gs) n s m = by (eqb g.number n) refl (mathlib.Core.List.Memᴰ.cases_cons m) (λ m'. found gs n s m')
+found [] n s m = absurd (Memᴰ.not-nil m)
+found (g ∷ gs) n s m = by (eqb g.number n) refl (Memᴰ.cases_cons m) (λ m'. found gs n s m')
   where
     by : (x : Bool) → eqb g.number n ≡ x → (given n s ≡ g) ⊎ Memᴰ (given n s) gs → (Memᴰ (given n s) gs → Found gs n) → Found (g ∷ gs) n
     by true e w rest = found_here g gs n e
@@ -85,10 +78,10 @@ retold : (equal : Bool) (s t t' : GivenFor) → Same t t' → Tells equal s t �
 retold equal s t t' same h = (λ e. same_trans s t t' (h.0 e) same, λ g. h.1 (same_trans s t' t g (same_turned t t' same)))
 
 last_of : (before : List Given) (x : Given) → Memᴰ x (before ++ (x ∷ []))
-last_of before x = mathlib.Core.List.Memᴰ.append_right before (mathlib.Core.List.Memᴰ.head refl)
+last_of before x = Memᴰ.append_right before (Memᴰ.head refl)
 
 -- the whole of a comparison: seven calls, of which the third gives nothing that is compared
-pub compared : (b₀ b₁ b₂ b₃ b₄ b₅ b₆ b₇ : Book) (n₁ n₂ n₃ n₄ n₅ n₆ : ℕ) (s t u v : GivenFor)
+pub compared : {b₀ b₁ b₂ b₃ b₄ b₅ b₆ b₇ : Book} {n₁ n₂ n₃ n₄ n₅ n₆ : ℕ} {s t u v : GivenFor}
     → ((before : List Given) → Run b₀ before → Run b₁ (before ++ (given n₁ s ∷ [])))
     → ((before : List Given) → Run b₁ before → Run b₂ (before ++ (given n₂ t ∷ [])))
     → Leads b₂ b₃
@@ -98,7 +91,7 @@ pub compared : (b₀ b₁ b₂ b₃ b₄ b₅ b₆ b₇ : Book) (n₁ n₂ n₃ 
     → ((before : List Given) → Run b₆ before → Run b₇ (before ++ (given n₆ (together_of Intersection (part before b₆ n₅) (part before b₆ n₄)) ∷ [])))
     → (before : List Given) → Run b₀ before
     → Compared b₇ before s t u v (record { second = eqb n₁ n₂; third = eqb n₁ n₃; cases = eqb n₁ n₄; union = eqb n₁ n₅; intersection = eqb n₁ n₆ })
-compared b₀ b₁ b₂ b₃ b₄ b₅ b₆ b₇ n₁ n₂ n₃ n₄ n₅ n₆ s t u v f₁ f₂ f₃ f₄ f₅ f₆ f₇ before run₀ =
+compared {b₅ = b₅} {b₆ = b₆} {b₇ = b₇} {n₁ = n₁} {n₂ = n₂} {n₃ = n₃} {n₄ = n₄} {n₅ = n₅} {n₆ = n₆} {s = s} {t = t} {u = u} {v = v} f₁ f₂ f₃ f₄ f₅ f₆ f₇ before run₀ =
     let run₁ = f₁ before run₀ in
     let g₁ = before ++ (given n₁ s ∷ []) in
     let run₂ = f₂ g₁ run₁ in
@@ -115,23 +108,23 @@ compared b₀ b₁ b₂ b₃ b₄ b₅ b₆ b₇ n₁ n₂ n₃ n₄ n₅ n₆ s
     let x = together_of Intersection (part g₆ b₆ n₅) (part g₆ b₆ n₄) in
     let run₇ = f₇ g₆ run₆ in
     let g₇ = g₆ ++ (given n₆ x ∷ []) in
-    let up : (z : Given) → Memᴰ z g₃ → Memᴰ z g₅ = λ z m. mathlib.Core.List.Memᴰ.append_left (given n₄ v ∷ []) (mathlib.Core.List.Memᴰ.append_left (given n₃ u ∷ []) m) in
-    let end : (z : Given) → Memᴰ z g₅ → Memᴰ z g₇ = λ z m. mathlib.Core.List.Memᴰ.append_left (given n₆ x ∷ []) (mathlib.Core.List.Memᴰ.append_left (given n₅ w ∷ []) m) in
-    let first : Memᴰ (given n₁ s) g₅ = up (given n₁ s) (l.earlier (given n₁ s) (mathlib.Core.List.Memᴰ.append_left (given n₂ t ∷ []) (last_of before (given n₁ s)))) in
+    let up : (z : Given) → Memᴰ z g₃ → Memᴰ z g₅ = λ z m. Memᴰ.append_left (given n₄ v ∷ []) (Memᴰ.append_left (given n₃ u ∷ []) m) in
+    let end : (z : Given) → Memᴰ z g₅ → Memᴰ z g₇ = λ z m. Memᴰ.append_left (given n₆ x ∷ []) (Memᴰ.append_left (given n₅ w ∷ []) m) in
+    let first : Memᴰ (given n₁ s) g₅ = up (given n₁ s) (l.earlier (given n₁ s) (Memᴰ.append_left (given n₂ t ∷ []) (last_of before (given n₁ s)))) in
     let second : Memᴰ (given n₂ t) g₅ = up (given n₂ t) (l.earlier (given n₂ t) (last_of g₁ (given n₂ t))) in
-    let third : Memᴰ (given n₃ u) g₅ = mathlib.Core.List.Memᴰ.append_left (given n₄ v ∷ []) (last_of g₃ (given n₃ u)) in
+    let third : Memᴰ (given n₃ u) g₅ = Memᴰ.append_left (given n₄ v ∷ []) (last_of g₃ (given n₃ u)) in
     let fourth : Memᴰ (given n₄ v) g₅ = last_of g₄ (given n₄ v) in
-    let fifth : Memᴰ (given n₅ w) g₇ = mathlib.Core.List.Memᴰ.append_left (given n₆ x ∷ []) (last_of g₅ (given n₅ w)) in
+    let fifth : Memᴰ (given n₅ w) g₇ = Memᴰ.append_left (given n₆ x ∷ []) (last_of g₅ (given n₅ w)) in
     let sixth : Memᴰ (given n₆ x) g₇ = last_of g₆ (given n₆ x) in
     let union : Same w (together_of Union s t) = same_together Union (part g₅ b₅ n₁) s (part g₅ b₅ n₂) t (part_same b₅ g₅ run₅ n₁ s first) (part_same b₅ g₅ run₅ n₂ t second) in
     let both : Same x (together_of Intersection (together_of Union s t) v) =
     same_together Intersection (part g₆ b₆ n₅) (together_of Union s t) (part g₆ b₆ n₄) v (same_trans (part g₆ b₆ n₅) w (together_of Union s t) (part_same b₆ g₆ run₆ n₅ w (last_of g₅ (given n₅ w))) union)
-    (part_same b₆ g₆ run₆ n₄ v (mathlib.Core.List.Memᴰ.append_left (given n₅ w ∷ []) fourth)) in
+    (part_same b₆ g₆ run₆ n₄ v (Memᴰ.append_left (given n₅ w ∷ []) fourth)) in
     record {
       later = record {
         so_far = g₇;
         run = run₇;
-        earlier = λ z m. end z (up z (l.earlier z (mathlib.Core.List.Memᴰ.append_left (given n₂ t ∷ []) (mathlib.Core.List.Memᴰ.append_left (given n₁ s ∷ []) m))));
+        earlier = λ z m. end z (up z (l.earlier z (Memᴰ.append_left (given n₂ t ∷ []) (Memᴰ.append_left (given n₁ s ∷ []) m))));
       };
       second = tells b₇ g₇ run₇ n₁ n₂ s t (end (given n₁ s) first) (end (given n₂ t) second);
       third = tells b₇ g₇ run₇ n₁ n₃ s u (end (given n₁ s) first) (end (given n₃ u) third);

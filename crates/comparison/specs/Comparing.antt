@@ -1,25 +1,15 @@
 -- Answers of one book to questions over several theories, and what equal numbers say of them.
 --
---   Gives       a call continues every run of the book, and where it is served it gives a number for these choices
---   GivesJoin   the same of a join, whose parts count with the choices for which the book first gave them
 --   Later       a book after a run that goes on from where numbers had been given before
 --   Leads       every run of a book goes on to the book afterwards
 --   Tells       whether two numbers are equal tells whether two sets of choices are the same
 --   Compared    the run goes on, and each comparison with the first answer tells
-use Rattle.std.specs.Prelude.{◌≡◌, ℕ, Bool, true, ◌↔◌, List, [], ◌∷◌, ◌++◌, Result, MatchResult}
+use Rattle.std.specs.Prelude.{◌≡◌, Bool, true, ◌↔◌, List}
 use mathlib.Core.List.{Memᴰ}
-use Rattle.diagrams.specs.declared.Operation.{Operation}
 use Rattle.diagrams.specs.declared.Operation.TheVariants.{Union, Intersection}
 use Rattle.diagrams.specs.Books.{Book}
-use Rattle.book.specs.Runs.{GivenFor, together_of, Given, given, part, Same, Run}
+use Rattle.book.specs.Runs.{GivenFor, together_of, Given, Same, Run}
 use Rattle.comparison.specs.declared.Comparison.{Comparison}
-
-abbrev pub Gives : {E : Type 0} → Book → Result ℕ E → Book → GivenFor → Type 0
-Gives b r b' s = MatchResult r (λ n. (before : List Given) → Run b before → Run b' (before ++ (given n s ∷ []))) (λ _. (before : List Given) → Run b before → Run b' (before ++ []))
-
-abbrev pub GivesJoin : {E : Type 0} → Operation → ℕ → ℕ → Book → Result ℕ E → Book → Type 0
-GivesJoin op x y b r b' =
-    MatchResult r (λ n. (before : List Given) → Run b before → Run b' (before ++ (given n (together_of op (part before b x) (part before b y)) ∷ []))) (λ _. (before : List Given) → Run b before → Run b' (before ++ []))
 
 pub record Later (b' : Book) (before : List Given) : Type 0 where
   pub so_far : List Given

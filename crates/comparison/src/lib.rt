@@ -7,19 +7,11 @@ ghost use Rattle.theory.specs.Means.{meaning};
 ghost use Rattle.diagrams.specs.Books.{book_of};
 ghost use Rattle.book.specs.Runs.{impossible, Given, Run};
 ghost use Rattle.comparison.specs.declared.Stopped.TheVariants.{Question as byQuestion, Join as byJoin};
-ghost use Rattle.comparison.specs.Comparing.{Gives, GivesJoin, Leads, Compared};
+ghost use Rattle.comparison.specs.Comparing.{Leads, Compared};
 
-use book::{Book, BookFault, QuestionFault};
+use book::{Book, BookFault, Inquiry, QuestionFault};
 use diagrams::Operation;
 use theory::Theory;
-
-// A theory with the predicates and the goals of a question.
-#[derive(Drop)]
-pub struct Inquiry<'q, T> {
-    pub theory: &'q T,
-    pub predicates: &'q [u16],
-    pub goals: &'q [u16],
-}
 
 // Which answers have the number of the first question's.
 #[derive(Clone, Copy)]
@@ -31,59 +23,14 @@ pub struct Comparison {
     pub intersection: bool,
 }
 
-fn asked<T: Theory>(
-    book: &mut Book<'_>,
-    inquiry: &Inquiry<'_, T>,
-    work: &mut [u32],
-) -> Result<u16, QuestionFault>
-    ensures held { book.new.lent.rows.ghost_name ≡ book.old.lent.rows.ghost_name }
-    ensures gives { Gives (book_of book.old.lent.rows.now book.old.lent.count) result (book_of book.new.lent.rows.now book.new.lent.count) (impossible (meaning T.Theory inquiry.now.theory.now) (ask inquiry.now.predicates.now inquiry.now.goals.now)) }
-{
-    let (number, _) = book.question(inquiry.theory, inquiry.predicates, inquiry.goals, work)?;
-    Ok(number)
-}
-
-fn abstracted<T: Theory>(
-    book: &mut Book<'_>,
-    inquiry: &Inquiry<'_, T>,
-    work: &mut [u32],
-) -> Result<u16, QuestionFault>
-    ensures held { book.new.lent.rows.ghost_name ≡ book.old.lent.rows.ghost_name }
-    ensures gives { Gives (book_of book.old.lent.rows.now book.old.lent.count) result (book_of book.new.lent.rows.now book.new.lent.count) (impossible (meaning T.Theory inquiry.now.theory.now) (ask (with_opposites (meaning T.Theory inquiry.now.theory.now) inquiry.now.predicates.now) inquiry.now.goals.now)) }
-{
-    let (number, _) = book.abstraction(inquiry.theory, inquiry.predicates, inquiry.goals, work)?;
-    Ok(number)
-}
-
-// A question with no place to work in, which is refused.
-fn refused<T: Theory>(book: &mut Book<'_>, inquiry: &Inquiry<'_, T>) -> bool
-    ensures held { book.new.lent.rows.ghost_name ≡ book.old.lent.rows.ghost_name }
-    ensures leads { Leads (book_of book.old.lent.rows.now book.old.lent.count) (book_of book.new.lent.rows.now book.new.lent.count) }
-{
-    let mut nowhere = [0u32; 0];
-    book.question(
-        inquiry.theory,
-        inquiry.predicates,
-        inquiry.goals,
-        &mut nowhere,
-    )
-    .is_err()
-}
-
-fn joined(book: &mut Book<'_>, op: Operation, left: u16, right: u16) -> Result<u16, BookFault>
-    ensures held { book.new.lent.rows.ghost_name ≡ book.old.lent.rows.ghost_name }
-    ensures gives { GivesJoin op left right (book_of book.old.lent.rows.now book.old.lent.count) result (book_of book.new.lent.rows.now book.new.lent.count) }
-{
-    book.join(op, left, right)
-}
-
 // Why there is no comparison: a call was refused.
-#[derive(Clone, Copy)]
+#[derive(Clone, Copy, PartialEq, Eq)]
 pub enum Stopped {
     Question(QuestionFault),
     Join(BookFault),
 }
 
+// Both conversions are written by hand, since the contract of `?` needs `from_gives`.
 impl From<QuestionFault> for Stopped {
     ghost from_gives = { λ fault r. r ≡ byQuestion fault };
 
@@ -100,8 +47,8 @@ impl From<BookFault> for Stopped {
     }
 }
 
-// Asks the three questions, a refused one between them, then the first as an abstraction; joins the first two answers and
-// the abstraction's; and tells which answers have the number of the first.
+// Asks the three questions, one with no place to work in between them, which is refused, then the first as an abstraction;
+// joins the first two answers and the abstraction's; and tells which answers have the number of the first.
 pub fn compare<A: Theory, B: Theory, C: Theory>(
     book: &mut Book<'_>,
     first: &Inquiry<'_, A>,
@@ -112,13 +59,13 @@ pub fn compare<A: Theory, B: Theory, C: Theory>(
     ensures held { book.new.lent.rows.ghost_name ≡ book.old.lent.rows.ghost_name }
     ensures compared { MatchResult result (λ equal. (before : List Given) → Run (book_of book.old.lent.rows.now book.old.lent.count) before → Compared (book_of book.new.lent.rows.now book.new.lent.count) before (impossible (meaning A.Theory first.now.theory.now) (ask first.now.predicates.now first.now.goals.now)) (impossible (meaning B.Theory second.now.theory.now) (ask second.now.predicates.now second.now.goals.now)) (impossible (meaning C.Theory third.now.theory.now) (ask third.now.predicates.now third.now.goals.now)) (impossible (meaning A.Theory first.now.theory.now) (ask (with_opposites (meaning A.Theory first.now.theory.now) first.now.predicates.now) first.now.goals.now)) equal) (λ _. Leads (book_of book.old.lent.rows.now book.old.lent.count) (book_of book.new.lent.rows.now book.new.lent.count)) }
 {
-    let one = asked(book, first, work)?;
-    let two = asked(book, second, work)?;
-    let _ = refused(book, second);
-    let three = asked(book, third, work)?;
-    let cases = abstracted(book, first, work)?;
-    let union = joined(book, Operation::Union, one, two)?;
-    let intersection = joined(book, Operation::Intersection, union, cases)?;
+    let (one, _) = book.question(first, work)?;
+    let (two, _) = book.question(second, work)?;
+    let _ = book.question(second, &mut []);
+    let (three, _) = book.question(third, work)?;
+    let (cases, _) = book.abstraction(first, work)?;
+    let union = book.join(Operation::Union, one, two)?;
+    let intersection = book.join(Operation::Intersection, union, cases)?;
     Ok(Comparison {
         second: one == two,
         third: one == three,

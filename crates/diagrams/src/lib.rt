@@ -5,7 +5,8 @@ ghost use Rattle.std.specs.Prelude.{◌≡◌};
 ghost use Rattle.diagrams.specs.Diagram.{row_hash};
 ghost use Rattle.diagrams.specs.Books.{neutral, absorbing};
 
-// A row of a decision diagram: at a position, the numbers of the set's halves without and with it.
+// A row of a decision diagram: at a position, the numbers of the set's halves without and with it. The halves are numbers and
+// not boxes, since rows lie in lent memory and tools hold and compare these numbers.
 #[derive(Clone, Copy, PartialEq, Eq, Default)]
 pub struct Row {
     pub position: u8,

@@ -4,7 +4,8 @@ ghost use Rattle.std.proofs.Common.{rules};
 
 use register::Row;
 
-// A term: a symbol, how many arguments it has, and the numbers of these, of which an unused one is 0.
+// A term: a symbol, how many arguments it has, and the numbers of these, of which an unused one is 0. An unused argument is no
+// `Option`, since a term with one that is not 0 can be asked for, and is refused.
 #[derive(Clone, Copy, PartialEq, Eq, Default)]
 pub struct Term {
     pub symbol: u16,

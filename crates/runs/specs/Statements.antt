@@ -7,7 +7,7 @@
 --   Alike                        two outcomes of a call differ in row numbers only
 --   OnlyNumbersAreFree           any two outcomes that the rules allow for one call are alike
 --   FirstSame                    a place is the first of some answers that was given for the same choices as another
-use Rattle.std.specs.Prelude.{◌≡◌, ℕ, ◌^◌, ◌<◌, true, ◌↔◌, List, map, length, None, Ok, Err, Result, slice_index_or}
+use Rattle.std.specs.Prelude.{◌≡◌, ℕ, ◌^◌, ◌<◌, true, ◌↔◌, List, map, length, None, Ok, Err, Option, Result, MatchOption, slice_index_or}
 use mathlib.Core.List.{Memᴰ}
 use Rattle.theory.specs.Theory.{Meaning}
 use Rattle.theory.specs.Rounds.{Question}
@@ -63,9 +63,11 @@ abbrev pub OnlyNumbersAreFree : Type 0
 OnlyNumbersAreFree = (b : Book) (call : Call) (r s : Answer call) (b₁ b₂ : Book) → Serves b call r b₁ → Serves b call s b₂ → Alike call r b₁ s b₂
 
 -- where a book has given all of these numbers: `place` is that of the first answer with the same choices as the number's, or
--- their length where none has them
-abbrev pub FirstSame : List ℕ → ℕ → ℕ → Type 0
+-- none of them has them
+abbrev pub FirstSame : List ℕ → ℕ → Option ℕ → Type 0
 FirstSame numbers number place =
     (b : Book) (so_far : List Given) → Run b so_far → (answers : List Given) → ((x : Given) → Memᴰ x answers → Memᴰ x so_far) → map (λ x. x.number) answers ≡ numbers
     → (y : Given) → Memᴰ y so_far → y.number ≡ number
-    → ((k : ℕ) → k < place → Same (slice_index_or answers k y).choices y.choices → ⊥) × (place < length numbers → Same (slice_index_or answers place y).choices y.choices)
+    → MatchOption place
+    ((k : ℕ) → k < length numbers → Same (slice_index_or answers k y).choices y.choices → ⊥)
+    (λ i. ((k : ℕ) → k < i → Same (slice_index_or answers k y).choices y.choices → ⊥) × Same (slice_index_or answers i y).choices y.choices)

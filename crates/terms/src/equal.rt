@@ -6,11 +6,10 @@ ghost use Rattle.equality.proofs.Laws.{equality_is_lawful};
 ghost use Rattle.terms.specs.Facts.{terms_of, made_fact};
 
 use crate::TermTable;
-use crate::rules::*;
 use theory::{Conclusion, FactFault, Rule, Theory};
 
 // How a fact relates two terms.
-#[derive(Clone, Copy)]
+#[derive(Clone, Copy, PartialEq, Eq)]
 pub enum Relation {
     Equal,
     Different,
@@ -36,36 +35,40 @@ impl Equality<'_, '_> {
     pub fn fact(&self, relation: Relation, left: u8, right: u8) -> Result<u16, FactFault>
         ensures { result ≡ made_fact self.now.table.now.lent.count relation left right }
     {
-        let terms = self.table.len();
-        if left >= terms || right >= terms {
+        let numbering = self.table.numbering();
+        let (i, j) = (left as u16, right as u16);
+        if i >= numbering.terms || j >= numbering.terms {
             return Err(FactFault::NoTerm);
         }
-        match relation {
-            Relation::Equal => Ok(equal(terms as u16, left as u16, right as u16)),
-            Relation::Different => Ok(differ(terms as u16, left as u16, right as u16)),
+        Ok(match relation {
+            Relation::Equal => numbering.equal(i, j),
+            Relation::Different => numbering.differ(i, j),
+        })
+    }
+
+    // If two terms have one symbol and one number of arguments, at least 1, equality of their arguments gives theirs.
+    fn applied(&self, i: u16, j: u16) -> Option<Rule>
+        requires first { i < self.now.table.now.lent.count }
+        requires second { j < self.now.table.now.lent.count }
+        ensures { result ≡ rule_at (terms_of self.now.table.now) (Applied i j) }
+    {
+        let numbering = self.table.numbering();
+        let x = self.table.term(i);
+        let y = self.table.term(j);
+        if x.symbol != y.symbol || x.arity != y.arity {
+            return None;
+        }
+        let given = Conclusion::Fact(numbering.equal(i, j));
+        match x.arity {
+            0 => None,
+            1 => Some(Rule::From(numbering.equal(x.left as u16, y.left as u16), given)),
+            _ => Some(Rule::Both(
+                numbering.equal(x.left as u16, y.left as u16),
+                numbering.equal(x.right as u16, y.right as u16),
+                given,
+            )),
         }
     }
-}
-
-// If two terms have one symbol and one number of arguments, at least 1, equality of their arguments gives theirs.
-fn applied(table: &TermTable<'_>, i: u16, j: u16) -> Option<Rule>
-    requires first { i < table.now.lent.count }
-    requires second { j < table.now.lent.count }
-    ensures { result ≡ rule_at (terms_of table.now) (Applied i j) }
-{
-    let terms = table.len() as u16;
-    let x = table.term(i);
-    let y = table.term(j);
-    if x.symbol != y.symbol || x.arity != y.arity || x.arity == 0 {
-        return None;
-    }
-    let given = Conclusion::Fact(equal(terms, i, j));
-    let left = equal(terms, x.left as u16, y.left as u16);
-    if x.arity == 1 {
-        return Some(Rule::From(left, given));
-    }
-    let right = equal(terms, x.right as u16, y.right as u16);
-    Some(Rule::Both(left, right, given))
 }
 
 impl Theory for Equality<'_, '_> {
@@ -84,47 +87,43 @@ impl Theory for Equality<'_, '_> {
     ghost lawful = { λ e. equality_is_lawful (terms_of e.table.now) (table_out (terms_of e.table.now) e.table.now.table) };
 
     fn facts(&self) -> u16 {
-        2 * square(self.table.len() as u16)
+        2 * self.table.numbering().square()
     }
 
     fn places(&self) -> u32 {
-        let terms = self.table.len() as u16;
-        let square = square(terms) as u32;
-        let terms = terms as u32;
-        terms + square + square * terms + square + square
+        let numbering = self.table.numbering();
+        let square = numbering.square() as u32;
+        numbering.terms as u32 + square + numbering.cube() + square + square
     }
 
+    // The places stand in groups, one behind another; each group is named with its first place.
     fn rule(&self, place: u32) -> Option<Rule> {
-        let terms = self.table.len() as u16;
-        let square = square(terms) as u32;
-        let cube = square * terms as u32;
-        if place < terms as u32 {
-            return Some(same(terms, place as u16));
+        let numbering = self.table.numbering();
+        let square = numbering.square() as u32;
+        let turns = numbering.terms as u32;
+        let chains = turns + square;
+        let applications = chains + numbering.cube();
+        let clashes = applications + square;
+        if place < turns {
+            Some(numbering.same(place as u16))
+        } else if place < chains {
+            let (i, j) = numbering.pair(place - turns);
+            Some(numbering.turned(i, j))
+        } else if place < applications {
+            let (i, j, k) = numbering.triple(place - chains);
+            Some(numbering.chained(i, j, k))
+        } else if place < clashes {
+            let (i, j) = numbering.pair(place - applications);
+            self.applied(i, j)
+        } else if place < clashes + square {
+            let (i, j) = numbering.pair(place - clashes);
+            Some(numbering.clashing(i, j))
+        } else {
+            None
         }
-        let place = place - terms as u32;
-        if place < square {
-            let (i, j) = pair(terms, place);
-            return Some(turned(terms, i, j));
-        }
-        let place = place - square;
-        if place < cube {
-            let (i, j, k) = triple(terms, place);
-            return Some(chained(terms, i, j, k));
-        }
-        let place = place - cube;
-        if place < square {
-            let (i, j) = pair(terms, place);
-            return applied(self.table, i, j);
-        }
-        let place = place - square;
-        if place < square {
-            let (i, j) = pair(terms, place);
-            return Some(clashing(terms, i, j));
-        }
-        None
     }
 
     fn opposite(&self, fact: u16) -> Option<u16> {
-        opposite(self.table.len() as u16, fact)
+        self.table.numbering().opposite(fact)
     }
 }

@@ -1,24 +1,20 @@
-ghost use Rattle.std.specs.Prelude.{◌≡◌};
 ghost use Rattle.terms.specs.Faults.{term_fault_number};
 
+use theory::Refusal;
+
 // Why a term was not added.
-#[derive(Clone, Copy)]
+#[derive(Clone, Copy, PartialEq, Eq)]
 pub enum TermFault {
-    TooManyArguments,
-    NoEarlierTerm,
-    UnusedNotZero,
-    TableFull,
+    TooManyArguments = 1,
+    NoEarlierTerm = 2,
+    UnusedNotZero = 3,
+    TableFull = 4,
 }
 
-impl TermFault {
-    pub fn number(&self) -> u8
-        ensures { result ≡ term_fault_number self.now }
-    {
-        match self {
-            TermFault::TooManyArguments => 1,
-            TermFault::NoEarlierTerm => 2,
-            TermFault::UnusedNotZero => 3,
-            TermFault::TableFull => 4,
-        }
+impl Refusal for TermFault {
+    ghost number = { term_fault_number };
+
+    fn number(self) -> u8 {
+        self as u8
     }
 }

@@ -2,7 +2,7 @@
 
 mod equal;
 mod faults;
-mod rules;
+mod numbering;
 mod table;
 
 pub use equal::{Equality, Relation};

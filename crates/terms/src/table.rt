@@ -1,9 +1,10 @@
-ghost use Rattle.std.specs.Prelude.{◌≡◌, ◌<◌, ◌≤◌, length, take, None};
+ghost use Rattle.std.specs.Prelude.{◌≡◌, ◌<◌, ◌≤◌, take, Some, None, MatchResult};
 ghost use Rattle.equality.specs.Equality.{Table, no_term, term_at};
 ghost use Rattle.register.specs.Rows.{Cleared};
 ghost use Rattle.terms.specs.Adding.{refusal, Adds};
 
 use crate::TermFault;
+use crate::numbering::Numbering;
 use equality::Term;
 use register::{Index, Register};
 
@@ -13,48 +14,8 @@ const MOST_TERMS: usize = 24;
 #[derive(Drop)]
 pub struct TermTable<'a> {
     lent: Register<'a, Term>,
-    ghost within: { lent.count ≤ length lent.rows.now },
     ghost few: { lent.count ≤ 24 },
     ghost table: { ∥ Table (take lent.count lent.rows.now) ∥₁ },
-}
-
-// Why the term cannot stand behind `count` terms, if it cannot.
-fn refusal(count: u16, term: Term) -> Option<TermFault>
-    ensures { result ≡ refusal count term }
-{
-    let left = term.left as u16;
-    let right = term.right as u16;
-    if term.arity > 2 {
-        return Some(TermFault::TooManyArguments);
-    }
-    if term.arity >= 1 && left >= count || term.arity >= 2 && right >= count {
-        return Some(TermFault::NoEarlierTerm);
-    }
-    if term.arity < 1 && left != 0 || term.arity < 2 && right != 0 {
-        return Some(TermFault::UnusedNotZero);
-    }
-    None
-}
-
-// Puts a term that may stand in the table, through an index that is made for this call only.
-fn put(lent: &mut Register<'_, Term>, term: Term) -> Result<u8, TermFault>
-    requires within { lent.old.count ≤ length lent.old.rows.now }
-    requires few { lent.old.count ≤ 24 }
-    requires fits { refusal lent.old.count term ≡ None }
-    ensures held { lent.new.rows.ghost_name ≡ lent.old.rows.ghost_name }
-    ensures adds { Adds lent.old.rows.now lent.old.count term lent.new.rows.now lent.new.count result }
-{
-    let mut heads = [0u16; 1];
-    let mut next = [0u16; MOST_TERMS];
-    let mut index = Index {
-        heads: &mut heads,
-        next: &mut next,
-    };
-    lent.link_rows(&mut index);
-    match lent.put(&mut index, MOST_TERMS as u16, term) {
-        Some(at) => Ok(at as u8),
-        None => Err(TermFault::TableFull),
-    }
 }
 
 impl<'a> TermTable<'a> {
@@ -64,14 +25,8 @@ impl<'a> TermTable<'a> {
         ensures cleared { Cleared rows.old 0 24 no_term result.lent.rows.now }
         ensures none { result.lent.count ≡ 0 }
     {
-        let blank = Term {
-            symbol: 0,
-            arity: 0,
-            left: 0,
-            right: 0,
-        };
         TermTable {
-            lent: Register::open(rows, MOST_TERMS as u16, blank),
+            lent: Register::open(rows, MOST_TERMS as u16, Term::default()),
         }
     }
 
@@ -81,9 +36,21 @@ impl<'a> TermTable<'a> {
         self.lent.count as u8
     }
 
+    // How the facts and the rule places over the terms are numbered.
+    pub(crate) fn numbering(&self) -> Numbering
+        ensures { result.terms ≡ self.now.lent.count }
+    {
+        Numbering {
+            terms: self.lent.count,
+        }
+    }
+
+    // A term of the table, whose arguments are terms of the table.
     pub(crate) fn term(&self, number: u16) -> Term
         requires { number < self.now.lent.count }
-        ensures { result ≡ term_at (take self.now.lent.count self.now.lent.rows.now) number }
+        ensures value { result ≡ term_at (take self.now.lent.count self.now.lent.rows.now) number }
+        ensures left { 1 ≤ result.arity → result.left < self.now.lent.count }
+        ensures right { 2 ≤ result.arity → result.right < self.now.lent.count }
     {
         self.lent.rows[number as usize]
     }
@@ -93,9 +60,46 @@ impl<'a> TermTable<'a> {
         ensures held { self.new.lent.rows.ghost_name ≡ self.old.lent.rows.ghost_name }
         ensures adds { Adds self.old.lent.rows.now self.old.lent.count term self.new.lent.rows.now self.new.lent.count result }
     {
-        if let Some(fault) = refusal(self.lent.count, term) {
-            return Err(fault);
+        self.admit(term)?;
+        self.put(term)
+    }
+
+    // Tells why the term may not stand behind those in the table, if it may not.
+    fn admit(&self, term: Term) -> Result<(), TermFault>
+        ensures { MatchResult result (λ _. refusal self.now.lent.count term ≡ None) (λ fault. refusal self.now.lent.count term ≡ Some fault) }
+    {
+        let count = self.lent.count;
+        let left = term.left as u16;
+        let right = term.right as u16;
+        if term.arity > 2 {
+            return Err(TermFault::TooManyArguments);
         }
-        put(&mut self.lent, term)
+        if term.arity >= 1 && left >= count || term.arity >= 2 && right >= count {
+            return Err(TermFault::NoEarlierTerm);
+        }
+        if term.arity < 1 && left != 0 || term.arity < 2 && right != 0 {
+            return Err(TermFault::UnusedNotZero);
+        }
+        Ok(())
+    }
+
+    // Adds a term that may stand in the table, through an index that is made for this call only.
+    fn put(&mut self, term: Term) -> Result<u8, TermFault>
+        requires { refusal self.old.lent.count term ≡ None }
+        ensures held { self.new.lent.rows.ghost_name ≡ self.old.lent.rows.ghost_name }
+        ensures adds { Adds self.old.lent.rows.now self.old.lent.count term self.new.lent.rows.now self.new.lent.count result }
+    {
+        let mut heads = [0u16; 1];
+        let mut next = [0u16; MOST_TERMS];
+        let mut index = Index {
+            heads: &mut heads,
+            next: &mut next,
+        };
+        self.lent.link_rows(&mut index);
+        let at = self
+            .lent
+            .put(&mut index, MOST_TERMS as u16, term)
+            .ok_or(TermFault::TableFull)?;
+        Ok(at as u8)
     }
 }

@@ -23,6 +23,15 @@ pub enum FactFault {
     ConstantOutOfRange = 8,
 }
 
+// A number stands for itself, so that a tool that holds no more than a number can print it.
+impl Refusal for u8 {
+    ghost number = { λ n. n };
+
+    fn number(self) -> u8 {
+        self
+    }
+}
+
 impl Refusal for TheoryFault {
     ghost number = { theory_fault_number };
 

@@ -8,7 +8,7 @@ use Rattle.book.proofs.Stepping.{goes_on}
 use Rattle.book.proofs.book.Book.read.Goals as goal
 
 pub follow-requires : goal.follow-requires
-follow-requires c = record { sound = kept_sound c.args.self.now.kept; held = omega arith }
+follow-requires c = grind arith
 
 pub returns-then-not-holds : goal.returns-then-not-holds
 returns-then-not-holds c =

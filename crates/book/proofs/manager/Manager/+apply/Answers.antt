@@ -2,7 +2,7 @@ use Rattle.std.proofs.Common.{Ok, Err, sym, subst}
 use Rattle.diagrams.specs.Making.{Adds}
 use Rattle.diagrams.specs.Books.{union_or_intersection}
 use Rattle.diagrams.proofs.Applied.{shortened, broken, below, falls_without, without_full, held_without, held_later, falls_with, with_full, fit, done}
-use Rattle.book.proofs.Grown.{ready, grown_none, grown_more}
+use Rattle.book.proofs.Grown.{ready, grown_none}
 use Rattle.book.proofs.Recalling.{recalled, table_right, right_entry}
 use Rattle.book.proofs.manager.Manager.+apply.Goals as goal
 
@@ -73,5 +73,5 @@ returns-clause-applied t c =
     let b = c.args.self.now.register.now in
     let u = c.make.new.self.register.now in
     let s = union_or_intersection c.args.op b.rows.now c.args.a c.args.b in
-    subst (λ z. Adds b.rows.now b.count z.now.rows.now z.now.count s c.in_ok-n.n) (sym c.remember.ensures)
+    subst (λ z. Adds b.rows.now b.count z.now.rows.now z.now.count s c.in_ok-n.n) (sym c.remember.ensures.same)
     (done c.args.op c.split-split.ensures c.apply.ensures.enlarged.extends c.in_ok-without.ensures.applied c.in_ok-with.ensures.applied u.rows.now u.count (Ok c.in_ok-n.n) c.in_ok-n.ensures.made)

@@ -1,4 +1,4 @@
-use Rattle.std.proofs.Common.{◌+◌, ◌<◌, refl, rules}
+use Rattle.std.proofs.Common.{◌+◌, ◌<◌, rules}
 use Rattle.diagrams.specs.Applying.{row_with}
 use Rattle.diagrams.proofs.MakingRows.{made_same}
 use Rattle.book.proofs.Grown.{ready, grown_none, fields}
