@@ -1,7 +1,6 @@
-use crate::asking::ask;
 use crate::choices::Choice;
 use crate::stop::Stop;
-use crate::telling::{tell_cases, tell_minimal, tell_reading, tell_statements, tell_step};
+use crate::telling::{Statement, Teller, tell_statements};
 use book::Book;
 use differences::{Bound, Differences};
 use std::fmt;
@@ -20,151 +19,166 @@ enum Tick {
 
 const TICKS: u8 = 6;
 
-// What may be said of starts and deadlines.
+// What may be said of starts and deadlines: how the left tick is bounded by the right one plus the constant.
 #[derive(Clone, Copy)]
-enum Claim {
-    RenderFirst,
-    RerouteAfter,
-    RerouteTakes,
-    AskedEarly,
-    DeadlineMet,
-    PrefetchFirst,
-    PrefetchHolds,
-    RenderSoon,
-    RerouteLate,
-    DoneLate,
-    DoneLateSinceAsked,
-    Nonsense,
-    DeadlineMissed,
-}
-
-const PREDICATES: [Claim; 8] = [
-    Claim::RenderFirst,
-    Claim::RerouteAfter,
-    Claim::RerouteTakes,
-    Claim::AskedEarly,
-    Claim::DeadlineMet,
-    Claim::PrefetchFirst,
-    Claim::PrefetchHolds,
-    Claim::RenderSoon,
-];
-
-const STEPS: [Claim; 4] = [
-    Claim::RerouteLate,
-    Claim::DoneLate,
-    Claim::DoneLateSinceAsked,
-    Claim::Nonsense,
-];
-
-impl Claim {
-    fn text(self) -> &'static str {
-        match self {
-            Claim::RenderFirst =>
-                "render runs first, at least 9 ticks before the lock is free: render <= free - 9",
-            Claim::RerouteAfter => "reroute starts once the lock is free: free <= reroute",
-            Claim::RerouteTakes => "reroute takes at least 4 ticks: reroute <= done - 4",
-            Claim::AskedEarly => "reroute is asked for by the time render starts: asked <= render",
-            Claim::DeadlineMet =>
-                "reroute meets its deadline, 12 ticks after it is asked for: done <= asked + 12",
-            Claim::PrefetchFirst =>
-                "prefetch goes first, render starts once the lock is free: free <= render",
-            Claim::PrefetchHolds =>
-                "prefetch holds the lock for at least 5 ticks: prefetch <= free - 5",
-            Claim::RenderSoon =>
-                "render starts at most 3 ticks after prefetch: render <= prefetch + 3",
-            Claim::RerouteLate =>
-                "reroute starts at least 9 ticks after render: render <= reroute - 9",
-            Claim::DoneLate =>
-                "reroute is done at least 13 ticks after render starts: render <= done - 13",
-            Claim::DoneLateSinceAsked =>
-                "reroute is done at least 13 ticks after it is asked for: asked <= done - 13",
-            Claim::Nonsense => "reroute is asked for before it is asked for: asked <= asked - 1",
-            Claim::DeadlineMissed => "reroute misses its deadline: asked < done - 12",
-        }
-    }
-
-    fn fact(self, theory: Differences) -> Result<u16, Stop> {
-        let (bound, left, right, constant) = match self {
-            Claim::RenderFirst => (Bound::AtMost, Tick::Render, Tick::Free, -9),
-            Claim::RerouteAfter => (Bound::AtMost, Tick::Free, Tick::Reroute, 0),
-            Claim::RerouteTakes => (Bound::AtMost, Tick::Reroute, Tick::Done, -4),
-            Claim::AskedEarly => (Bound::AtMost, Tick::Asked, Tick::Render, 0),
-            Claim::DeadlineMet => (Bound::AtMost, Tick::Done, Tick::Asked, 12),
-            Claim::PrefetchFirst => (Bound::AtMost, Tick::Free, Tick::Render, 0),
-            Claim::PrefetchHolds => (Bound::AtMost, Tick::Prefetch, Tick::Free, -5),
-            Claim::RenderSoon => (Bound::AtMost, Tick::Render, Tick::Prefetch, 3),
-            Claim::RerouteLate => (Bound::AtMost, Tick::Render, Tick::Reroute, -9),
-            Claim::DoneLate => (Bound::AtMost, Tick::Render, Tick::Done, -13),
-            Claim::DoneLateSinceAsked => (Bound::AtMost, Tick::Asked, Tick::Done, -13),
-            Claim::Nonsense => (Bound::AtMost, Tick::Asked, Tick::Asked, -1),
-            Claim::DeadlineMissed => (Bound::Below, Tick::Asked, Tick::Done, -12),
-        };
-        Ok(theory.fact(bound, left as u8, right as u8, constant)?)
-    }
+struct Claim {
+    words: &'static str,
+    left: Tick,
+    bound: Bound,
+    right: Tick,
+    constant: i8,
 }
 
 impl fmt::Display for Claim {
     fn fmt<W: fmt::Write>(&self, f: &mut fmt::Formatter<W>) -> fmt::Result {
-        f.write_str(self.text())
+        f.write_str(self.words)
     }
 }
 
-fn predicates(theory: Differences) -> Result<[u16; 8], Stop> {
-    let mut facts = [0u16; 8];
-    for (k, claim) in PREDICATES.iter().enumerate() {
-        facts[k] = claim.fact(theory)?;
+impl Statement<Differences> for Claim {
+    fn fact(self, theory: &Differences) -> Result<u16, Stop> {
+        Ok(theory.fact(self.bound, self.left as u8, self.right as u8, self.constant)?)
     }
-    Ok(facts)
 }
 
-pub fn tell(rt: &HostRuntime, book: &mut Book<'_>) -> Result<(), Stop> {
+const PREDICATES: [Claim; 8] = [
+    Claim {
+        words: "render runs first, at least 9 ticks before the lock is free: render <= free - 9",
+        left: Tick::Render,
+        bound: Bound::AtMost,
+        right: Tick::Free,
+        constant: -9,
+    },
+    Claim {
+        words: "reroute starts once the lock is free: free <= reroute",
+        left: Tick::Free,
+        bound: Bound::AtMost,
+        right: Tick::Reroute,
+        constant: 0,
+    },
+    Claim {
+        words: "reroute takes at least 4 ticks: reroute <= done - 4",
+        left: Tick::Reroute,
+        bound: Bound::AtMost,
+        right: Tick::Done,
+        constant: -4,
+    },
+    Claim {
+        words: "reroute is asked for by the time render starts: asked <= render",
+        left: Tick::Asked,
+        bound: Bound::AtMost,
+        right: Tick::Render,
+        constant: 0,
+    },
+    Claim {
+        words: "reroute meets its deadline, 12 ticks after it is asked for: done <= asked + 12",
+        left: Tick::Done,
+        bound: Bound::AtMost,
+        right: Tick::Asked,
+        constant: 12,
+    },
+    Claim {
+        words: "prefetch goes first, render starts once the lock is free: free <= render",
+        left: Tick::Free,
+        bound: Bound::AtMost,
+        right: Tick::Render,
+        constant: 0,
+    },
+    Claim {
+        words: "prefetch holds the lock for at least 5 ticks: prefetch <= free - 5",
+        left: Tick::Prefetch,
+        bound: Bound::AtMost,
+        right: Tick::Free,
+        constant: -5,
+    },
+    Claim {
+        words: "render starts at most 3 ticks after prefetch: render <= prefetch + 3",
+        left: Tick::Render,
+        bound: Bound::AtMost,
+        right: Tick::Prefetch,
+        constant: 3,
+    },
+];
+
+const STEPS: [Claim; 4] = [
+    Claim {
+        words: "reroute starts at least 9 ticks after render: render <= reroute - 9",
+        left: Tick::Render,
+        bound: Bound::AtMost,
+        right: Tick::Reroute,
+        constant: -9,
+    },
+    Claim {
+        words: "reroute is done at least 13 ticks after render starts: render <= done - 13",
+        left: Tick::Render,
+        bound: Bound::AtMost,
+        right: Tick::Done,
+        constant: -13,
+    },
+    Claim {
+        words: "reroute is done at least 13 ticks after it is asked for: asked <= done - 13",
+        left: Tick::Asked,
+        bound: Bound::AtMost,
+        right: Tick::Done,
+        constant: -13,
+    },
+    Claim {
+        words: "reroute is asked for before it is asked for: asked <= asked - 1",
+        left: Tick::Asked,
+        bound: Bound::AtMost,
+        right: Tick::Asked,
+        constant: -1,
+    },
+];
+
+const GOAL: Claim = Claim {
+    words: "reroute misses its deadline: asked < done - 12",
+    left: Tick::Asked,
+    bound: Bound::Below,
+    right: Tick::Done,
+    constant: -12,
+};
+
+pub fn tell(rt: &(impl Print + AllocGlobal), book: &mut Book<'_>) -> Result<(), Stop> {
     let theory = Differences::new(TICKS)?;
-    tell_choices(rt, book, theory)?;
-    tell_goal(rt, book, theory)
+    tell_choices(rt, book, &theory)?;
+    tell_goal(rt, book, &theory)
 }
 
-fn tell_choices(rt: &HostRuntime, book: &mut Book<'_>, theory: Differences) -> Result<(), Stop> {
+fn tell_choices(
+    rt: &(impl Print + AllocGlobal),
+    book: &mut Book<'_>,
+    theory: &Differences,
+) -> Result<(), Stop> {
     println!(rt; "\nStarts and deadlines, by differences of ticks:")?;
     tell_statements(rt, &PREDICATES)?;
-    let predicates = predicates(theory)?;
-    let answer = ask(book, &theory, &predicates, &[])?;
+    let mut teller = Teller::new(rt, book, theory, &PREDICATES)?;
+    let answer = teller.ask(&[])?;
     let inversion = Choice(0b1111);
     let inherited = Choice(0b1111110);
     let contrary = Choice(0b11111);
-    tell_minimal(rt, book, answer, 256)?;
-    tell_reading(
-        rt,
-        book,
-        answer,
-        inversion,
-        "the path of the lock inversion",
-    )?;
-    tell_reading(
-        rt,
-        book,
+    teller.tell_minimal(answer)?;
+    teller.tell_reading(answer, inversion, "the path of the lock inversion")?;
+    teller.tell_reading(
         answer,
         inherited,
         "the deadline met when prefetch goes first",
     )?;
-    tell_reading(
-        rt,
-        book,
+    teller.tell_reading(
         answer,
         contrary,
         "the lock inversion with the deadline met, because",
     )?;
-    for step in STEPS {
-        let fact = step.fact(theory)?;
-        tell_step(rt, book, &theory, &predicates, contrary, &step, fact)?;
-    }
-    Ok(())
+    teller.tell_steps(contrary, &STEPS)
 }
 
-fn tell_goal(rt: &HostRuntime, book: &mut Book<'_>, theory: Differences) -> Result<(), Stop> {
-    let goal = Claim::DeadlineMissed;
-    let predicates = predicates(theory)?;
-    let wanted = goal.fact(theory)?;
-    println!(rt; "\nThe goal: {goal}")?;
+fn tell_goal(
+    rt: &(impl Print + AllocGlobal),
+    book: &mut Book<'_>,
+    theory: &Differences,
+) -> Result<(), Stop> {
+    println!(rt; "\nThe goal: {GOAL}")?;
     println!(rt; "A case says yes to some of 0 to 3 and no to the others.")?;
-    tell_cases(rt, book, &theory, &predicates[0..4], &[wanted], &[])
+    let mut teller = Teller::new(rt, book, theory, &PREDICATES[..4])?;
+    teller.tell_cases(GOAL, &[])
 }

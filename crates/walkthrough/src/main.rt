@@ -1,6 +1,5 @@
 #![tactic(auto)]
 
-mod asking;
 mod choices;
 mod deadlines;
 mod locks;
@@ -12,13 +11,7 @@ use book::Book;
 use diagrams::Row;
 use std::io;
 
-const BLANK_ROW: Row = Row {
-    position: 0,
-    without: 0,
-    with: 0,
-};
-
-fn introduce(rt: &HostRuntime) -> io::Result<()> {
+fn introduce(rt: &impl Print) -> io::Result<()> {
     println!(rt;
         "A navigation unit. The tile prefetch, of low priority, holds the cache lock; the map"
     )?;
@@ -31,8 +24,8 @@ fn introduce(rt: &HostRuntime) -> io::Result<()> {
     println!(rt; "be true, and kept otherwise.")
 }
 
-fn walk(rt: &HostRuntime) -> Result<(), Stop> {
-    let mut rows = [BLANK_ROW; 4096];
+fn walk(rt: &(impl Print + AllocGlobal)) -> Result<(), Stop> {
+    let mut rows = [Row::default(); 4096];
     let mut book = Book::open(&mut rows);
     introduce(rt)?;
     locks::tell(rt, &mut book)?;
@@ -41,8 +34,8 @@ fn walk(rt: &HostRuntime) -> Result<(), Stop> {
 
 fn main(rt: HostRuntime) -> io::Result<()> {
     match walk(&rt) {
-        Ok(()) => Ok(()),
-        Err(Stop::Refused(number)) => println!(rt; "refused {number}"),
         Err(Stop::Printing(error)) => Err(error),
+        Err(refusal) => println!(rt; "{refusal}"),
+        Ok(()) => Ok(()),
     }
 }

@@ -1,47 +1,32 @@
 use book::{BookFault, QuestionFault};
-use std::io;
+use std::alloc::AllocError;
+use std::{fmt, io};
 use terms::TermFault;
-use theory::{FactFault, TheoryFault};
+use theory::{FactFault, Refusal, TheoryFault};
+use thiserror::Error;
 
-// Why the walkthrough stopped: a call was refused, by its number, or a line was not printed.
-#[derive(Drop)]
+// Why the walkthrough stopped: a call was refused, memory ran out, or a line was not printed.
+#[derive(Drop, Error)]
 pub enum Stop {
-    Refused(u8),
-    Printing(io::Error),
+    #[error("refused {}", .0.number())]
+    Term(#[from] TermFault),
+    #[error("refused {}", .0.number())]
+    Theory(#[from] TheoryFault),
+    #[error("refused {}", .0.number())]
+    Fact(#[from] FactFault),
+    #[error("refused {}", .0.number())]
+    Question(#[from] QuestionFault),
+    #[error("refused {}", .0.number())]
+    Book(#[from] BookFault),
+    #[error(transparent)]
+    Memory(#[from(alloc)] AllocError),
+    #[error(transparent)]
+    Printing(#[from] io::Error),
 }
 
-impl From<io::Error> for Stop {
-    fn from(error: io::Error) -> Stop {
-        Stop::Printing(error)
-    }
-}
-
-impl From<TermFault> for Stop {
-    fn from(fault: TermFault) -> Stop {
-        Stop::Refused(fault.number())
-    }
-}
-
-impl From<TheoryFault> for Stop {
-    fn from(fault: TheoryFault) -> Stop {
-        Stop::Refused(fault.number())
-    }
-}
-
-impl From<FactFault> for Stop {
-    fn from(fault: FactFault) -> Stop {
-        Stop::Refused(fault.number())
-    }
-}
-
-impl From<QuestionFault> for Stop {
-    fn from(fault: QuestionFault) -> Stop {
-        Stop::Refused(fault.number())
-    }
-}
-
-impl From<BookFault> for Stop {
-    fn from(fault: BookFault) -> Stop {
-        Stop::Refused(fault.number())
+// By hand, since the faults derive no `Debug`.
+impl fmt::Debug for Stop {
+    fn fmt<W: fmt::Write>(&self, f: &mut fmt::Formatter<W>) -> fmt::Result {
+        write!(f, "{self}")
     }
 }

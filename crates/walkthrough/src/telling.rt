@@ -1,93 +1,179 @@
-use crate::asking::{Answer, ask, ask_cases, is_minimal, least, reads};
 use crate::choices::Choice;
 use crate::stop::Stop;
-use book::Book;
+use book::{Book, Inquiry, QuestionFault};
 use std::fmt::Display;
 use std::io;
+use std::ops::Range;
 use theory::Theory;
 
+// What may be said in a theory: its words, and the number of its fact.
+pub trait Statement<T>: Copy + Display {
+    fn fact(self, theory: &T) -> Result<u16, Stop>;
+}
+
+// The numbers of the statements' facts.
+fn facts<T, S: Statement<T>>(
+    rt: &impl AllocGlobal,
+    theory: &T,
+    statements: &[S],
+) -> Result<Vec<u16>, Stop> {
+    statements
+        .iter()
+        .map(|statement| statement.fact(theory))
+        .try_collect(rt.alloc())
+}
+
+// An answer is a set of choices, by its number in the book.
+#[derive(Clone, Copy)]
+pub struct Answer(u16);
+
+// Asks about predicates, which are statements of a theory, and tells what the book answers.
+// With one lifetime for the three references the borrow checker does not cover the functions that make a teller.
+#[derive(Drop)]
+pub struct Teller<'r, 'l, 'b, 't, R, T> {
+    rt: &'r R,
+    book: &'l mut Book<'b>,
+    theory: &'t T,
+    predicates: Vec<u16>,
+}
+
+impl<'r, 'l, 'b, 't, R: Print + AllocGlobal, T: Theory> Teller<'r, 'l, 'b, 't, R, T> {
+    pub fn new<S: Statement<T>>(
+        rt: &'r R,
+        book: &'l mut Book<'b>,
+        theory: &'t T,
+        statements: &[S],
+    ) -> Result<Self, Stop> {
+        let predicates = facts(rt, theory, statements)?;
+        Ok(Teller {
+            rt,
+            book,
+            theory,
+            predicates,
+        })
+    }
+}
+
+impl<R: Print + AllocGlobal, T: Theory> Teller<'_, '_, '_, '_, R, T> {
+    // Which choices of the predicates are impossible while every goal is false.
+    pub fn ask(&mut self, goals: &[u16]) -> Result<Answer, Stop> {
+        self.answer(goals, |book, inquiry, work| book.question(inquiry, work))
+    }
+
+    // Which full cases of the predicates force some goal to be true.
+    fn ask_cases(&mut self, goals: &[u16]) -> Result<Answer, Stop> {
+        self.answer(goals, |book, inquiry, work| book.abstraction(inquiry, work))
+    }
+
+    // What the book answers, asked in one of its two ways.
+    fn answer<F>(&mut self, goals: &[u16], asked: F) -> Result<Answer, Stop>
+    where
+        F: FnOnce(&mut Book<'_>, &Inquiry<'_, T>, &mut [u32]) -> Result<(u16, u16), QuestionFault>,
+        requires { F.IsAlwaysCallable asked }
+    {
+        let inquiry = Inquiry {
+            theory: self.theory,
+            predicates: self.predicates.as_slice(),
+            goals,
+        };
+        let mut work = [0u32; 8192];
+        let (number, _) = asked(self.book, &inquiry, &mut work)?;
+        Ok(Answer(number))
+    }
+
+    // The choices of the predicates, by their bits.
+    fn choices(&self) -> Range<u16> {
+        0..1 << self.predicates.len().min(8)
+    }
+
+    // Whether the choice belongs to the answer.
+    fn reads(&self, answer: Answer, choice: Choice) -> Result<bool, Stop> {
+        Ok(self.book.read(answer.0, choice.0)?)
+    }
+
+    // Whether the choice belongs to the answer while no choice with one position less does.
+    fn is_minimal(&self, answer: Answer, choice: Choice) -> Result<bool, Stop> {
+        for position in (0..16).filter(|position| choice.has(*position)) {
+            if self.reads(answer, choice.without(position))? {
+                return Ok(false);
+            }
+        }
+        self.reads(answer, choice)
+    }
+
+    // The choice without the positions that it can do without and still belong.
+    fn least(&self, answer: Answer, choice: Choice) -> Result<Choice, Stop> {
+        (0..16).try_fold(choice, |least, position| {
+            let fewer = least.without(position);
+            Ok(if self.reads(answer, fewer)? {
+                fewer
+            } else {
+                least
+            })
+        })
+    }
+
+    // The minimal choices of an answer.
+    pub fn tell_minimal(&self, answer: Answer) -> Result<(), Stop> {
+        for choice in self.choices().map(Choice) {
+            if self.is_minimal(answer, choice)? {
+                println!(self.rt;
+                    "  impossible, and possible with any one of them left out:{choice}"
+                )?;
+            }
+        }
+        Ok(())
+    }
+
+    // What the answer says of one choice.
+    pub fn tell_reading(&self, answer: Answer, choice: Choice, words: &str) -> Result<(), Stop> {
+        let verdict = if self.reads(answer, choice)? {
+            "dropped"
+        } else {
+            "kept"
+        };
+        println!(self.rt; "  {verdict}:{choice}, {words}")?;
+        Ok(())
+    }
+
+    // The steps of the reasoning by which a choice is dropped. Each is asked as a goal, and told with the least positions of
+    // the choice that it follows from.
+    pub fn tell_steps<S: Statement<T>>(&mut self, choice: Choice, steps: &[S]) -> Result<(), Stop> {
+        for step in steps {
+            let answer = self.ask(&[step.fact(self.theory)?])?;
+            if self.reads(answer, choice)? {
+                let enough = self.least(answer, choice)?;
+                println!(self.rt; "    from{enough}: {step}")?;
+            } else {
+                println!(self.rt; "    not from{choice}: {step}")?;
+            }
+        }
+        Ok(())
+    }
+
+    // The full cases that force a goal. One that is impossible by what is granted alone cannot occur; a statement is granted
+    // by a goal that is its opposite.
+    pub fn tell_cases<S: Statement<T>>(&mut self, goal: S, granted: &[S]) -> Result<(), Stop> {
+        let mut goals = facts(self.rt, self.theory, granted)?;
+        let absurd = self.ask_cases(goals.as_slice())?;
+        goals.push(goal.fact(self.theory)?)?;
+        let forced = self.ask_cases(goals.as_slice())?;
+        for case in self.choices().map(Choice) {
+            let full = case.full_case(self.predicates.len());
+            if self.reads(absurd, full)? {
+                println!(self.rt; "  cannot occur: only{case}")?;
+            } else if self.reads(forced, full)? {
+                println!(self.rt; "  forces the goal: only{case}")?;
+            }
+        }
+        Ok(())
+    }
+}
+
 // The statements, each with its number.
-pub fn tell_statements<S: Display>(rt: &HostRuntime, statements: &[S]) -> io::Result<()> {
+pub fn tell_statements<S: Display>(rt: &impl Print, statements: &[S]) -> io::Result<()> {
     for (position, statement) in statements.iter().enumerate() {
         println!(rt; "  {position}  {statement}")?;
-    }
-    Ok(())
-}
-
-// The minimal choices of an answer over so many choices.
-pub fn tell_minimal(
-    rt: &HostRuntime,
-    book: &Book<'_>,
-    answer: Answer,
-    choices: u16,
-) -> Result<(), Stop> {
-    for bits in 0..choices {
-        let choice = Choice(bits);
-        if is_minimal(book, answer, choice)? {
-            println!(rt; "  impossible, and possible with any one of them left out:{choice}")?;
-        }
-    }
-    Ok(())
-}
-
-// What the answer says of one choice.
-pub fn tell_reading(
-    rt: &HostRuntime,
-    book: &Book<'_>,
-    answer: Answer,
-    choice: Choice,
-    words: &str,
-) -> Result<(), Stop> {
-    let verdict = if reads(book, answer, choice)? {
-        "dropped"
-    } else {
-        "kept"
-    };
-    println!(rt; "  {verdict}:{choice}, {words}")?;
-    Ok(())
-}
-
-// One step of the reasoning by which a choice is dropped. It is asked as a goal, and told with the least positions of
-// the choice that it follows from.
-pub fn tell_step<T: Theory, S: Display>(
-    rt: &HostRuntime,
-    book: &mut Book<'_>,
-    theory: &T,
-    predicates: &[u16],
-    choice: Choice,
-    step: &S,
-    fact: u16,
-) -> Result<(), Stop> {
-    let answer = ask(book, theory, predicates, &[fact])?;
-    if !reads(book, answer, choice)? {
-        println!(rt; "    not from{choice}: {step}")?;
-        return Ok(());
-    }
-    let enough = least(book, answer, choice)?;
-    println!(rt; "    from{enough}: {step}")?;
-    Ok(())
-}
-
-// The full cases that force a goal. One that belongs with the goals granted to be false alone cannot occur.
-pub fn tell_cases<T: Theory>(
-    rt: &HostRuntime,
-    book: &mut Book<'_>,
-    theory: &T,
-    predicates: &[u16],
-    goals: &[u16],
-    granted: &[u16],
-) -> Result<(), Stop> {
-    let forced = ask_cases(book, theory, predicates, goals)?;
-    let absurd = ask_cases(book, theory, predicates, granted)?;
-    let count = predicates.len().min(8) as u32;
-    for bits in 0..1u16 << count {
-        let case = Choice(bits);
-        let full = case.full_case(count);
-        if reads(book, absurd, full)? {
-            println!(rt; "  cannot occur: only{case}")?;
-        } else if reads(book, forced, full)? {
-            println!(rt; "  forces the goal: only{case}")?;
-        }
     }
     Ok(())
 }
