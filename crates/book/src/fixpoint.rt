@@ -89,7 +89,7 @@ impl Work<'_> {
         }
     }
 
-    // One round: every place in its order.
+    // One round: every place in its order. Places are numbers that a theory is asked for, and no list.
     fn round<T: Theory>(
         &mut self,
         manager: &mut Manager<'_, '_, '_>,
@@ -189,7 +189,7 @@ fn guarded<T: Theory>(
 }
 
 // A saturation with an index and tables of its own, on the stack. The caller chooses their sizes, so that a small question
-// does not pay for the largest.
+// does not pay for the largest. Why the arrays stand here and in `joins::within`, is said there.
 pub(crate) fn within<T: Theory, const HEADS: usize, const ROWS: usize, const PAIRS: usize>(
     register: &mut Register<'_, Row>,
     inquiry: &Checked<'_, T>,

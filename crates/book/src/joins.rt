@@ -48,7 +48,7 @@ fn within<const HEADS: usize, const ROWS: usize, const PAIRS: usize>(
 }
 
 impl Book<'_> {
-    // The index is as large as the book.
+    // The index is as large as the book. Sizes of arrays are literals, so each choice is a call.
     fn join_sized(&mut self, op: Operation, left: u16, right: u16) -> Result<u16, NoRoom>
         requires left { left < self.old.lent.count + 2 }
         requires right { right < self.old.lent.count + 2 }

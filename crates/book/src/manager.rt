@@ -116,7 +116,8 @@ impl Manager<'_, '_, '_> {
         Ok(at + 2)
     }
 
-    // The result of the operation on two numbers, in either order, if it was computed before.
+    // The result of the operation on two numbers, in either order, if it was computed before. The table is chosen by a `match`
+    // here and below: an operation is a value that calls hand on, and a closure for each would say no more.
     fn recall(&self, op: Operation, a: u16, b: u16) -> Option<u16>
         ensures { IfSome result (λ n. Recalls (table_of op self.now.unions.now self.now.intersections.now) (min a b) (max a b) n) }
     {

@@ -25,6 +25,7 @@ const MOST_PREDICATES: usize = 16;
 
 impl Book<'_> {
     // Chooses the sizes of a question's tables: light ones for few places and predicates, and an index as large as the book.
+    // Sizes of arrays are literals, so each choice is a call.
     fn sized<T: Theory>(
         &mut self,
         inquiry: &Checked<'_, T>,

@@ -41,7 +41,7 @@ impl Pending {
             .or(Err(RecordFault::TooManyPredicates))
     }
 
-    // One more goal, unless as many wait as may.
+    // One more goal, unless as many wait as may. Its limit and its refusal are its own, so it is no instance of the one above.
     pub fn add_goal(&mut self, statement: Statement) -> Result<(), RecordFault>
         ensures answer { result ≡ if_room 8 TooManyGoals (goals_of self.old) }
         ensures predicates { predicates_of self.new ≡ predicates_of self.old }

@@ -26,7 +26,7 @@ pub struct Index<'a> {
     pub next: &'a mut [u16],
 }
 
-// Rows in lent memory, the first `count` of them in use.
+// Rows in lent memory, the first `count` of them in use: the rows are the caller's, so the count stands beside them.
 #[derive(Drop)]
 pub struct Register<'a, R> {
     pub rows: &'a mut [R],
