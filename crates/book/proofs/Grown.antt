@@ -8,7 +8,6 @@ use Rattle.diagrams.specs.declared.Operation.TheVariants.{Union, Intersection}
 use Rattle.register.specs.Chains.{Indexed}
 use Rattle.book.specs.declared.scratch.Entry.{Entry}
 use Rattle.diagrams.proofs.Applied.{extends_more}
-use Rattle.diagrams.proofs.Leaves.{kept_out}
 use Rattle.diagrams.proofs.MakingRows.{extends_same}
 use Rattle.book.specs.Scratch.{Remembers, Ready}
 use Rattle.book.specs.Growing.{Enlarged}
@@ -16,7 +15,7 @@ use Rattle.book.specs.declared.manager.Manager.{Manager}
 
 pub ready : (m : Manager) → Ready m.register.now.rows.now m.register.now.count m.heads.now m.next.now m.unions.now m.intersections.now
 ready m = record {
-  kept = kept_out m.register.now.rows.now m.register.now.count m.kept;
+  kept = m.kept;
   indexed = m.indexed;
   room = m.room;
   unions_right = m.unions_right;
@@ -31,5 +30,5 @@ grown_more g h = record { rows = h.rows ∙ g.rows; extends = extends_more g.ext
 
 -- the ghost fields of a manager, from what they say together
 pub fields : {rows : List Row} {count : ℕ} {heads next : List ℕ} {unions intersections : List Entry} → Ready rows count heads next unions intersections
-    → record { kept : ∥ KeptBook rows count ∥₁; indexed : Indexed row_hash rows count heads next; room : capacity rows ≤ length next; unions_right : Remembers Union rows count unions; intersections_right : Remembers Intersection rows count intersections }
-fields r = record { kept = ∣ r.kept ∣₁; indexed = r.indexed; room = r.room; unions_right = r.unions_right; intersections_right = r.intersections_right }
+    → record { kept : KeptBook rows count; indexed : Indexed row_hash rows count heads next; room : capacity rows ≤ length next; unions_right : Remembers Union rows count unions; intersections_right : Remembers Intersection rows count intersections }
+fields r = record { kept = r.kept; indexed = r.indexed; room = r.room; unions_right = r.unions_right; intersections_right = r.intersections_right }

@@ -8,5 +8,5 @@ use register::Register;
 #[derive(Drop)]
 pub struct Book<'a> {
     pub(crate) lent: Register<'a, Row>,
-    ghost kept: { ∥ KeptBook lent.rows.now lent.count ∥₁ },
+    ghost kept: { KeptBook lent.rows.now lent.count },
 }

@@ -4,7 +4,7 @@ ghost use Rattle.book.specs.Questions.{question_fault_number};
 use theory::Refusal;
 
 // Why a reading or a join was refused.
-#[derive(Clone, Copy, PartialEq, Eq)]
+#[derive(Clone, Copy, Debug, PartialEq, Eq)]
 pub enum BookFault {
     Full = 13,
     NotHeld = 14,
@@ -19,7 +19,7 @@ impl Refusal for BookFault {
 }
 
 // Why a question or an abstraction was refused.
-#[derive(Clone, Copy, PartialEq, Eq)]
+#[derive(Clone, Copy, Debug, PartialEq, Eq)]
 pub enum QuestionFault {
     TooManyPredicates = 9,
     TooManyGoals = 10,

@@ -49,7 +49,6 @@ fn within<const HEADS: usize, const ROWS: usize, const PAIRS: usize>(
 
 impl Book<'_> {
     // The index is as large as the book.
-    #[tactic(auto, using(diagrams::proofs::Leaves::kept_out))]
     fn join_sized(&mut self, op: Operation, left: u16, right: u16) -> Result<u16, NoRoom>
         requires left { left < self.old.lent.count + 2 }
         requires right { right < self.old.lent.count + 2 }

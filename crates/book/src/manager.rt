@@ -24,7 +24,7 @@ pub(crate) struct Manager<'b, 'r, 'm> {
     pub(crate) next: &'m mut [u16],
     pub(crate) unions: &'m mut [Entry],
     pub(crate) intersections: &'m mut [Entry],
-    ghost kept: { ∥ KeptBook register.now.rows.now register.now.count ∥₁ },
+    ghost kept: { KeptBook register.now.rows.now register.now.count },
     ghost indexed: { Indexed row_hash register.now.rows.now register.now.count heads.now next.now },
     ghost room: { capacity register.now.rows.now ≤ length next.now },
     ghost unions_right: { Remembers Union register.now.rows.now register.now.count unions.now },

@@ -25,7 +25,6 @@ const MOST_PREDICATES: usize = 16;
 
 impl Book<'_> {
     // Chooses the sizes of a question's tables: light ones for few places and predicates, and an index as large as the book.
-    #[tactic(auto, using(diagrams::proofs::Leaves::kept_out))]
     fn sized<T: Theory>(
         &mut self,
         inquiry: &Checked<'_, T>,

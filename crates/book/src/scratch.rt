@@ -1,7 +1,5 @@
-ghost use Rattle.std.specs.Prelude.{◌≡◌, ◌<◌, min, max, IfSome};
-ghost use Rattle.book.specs.Scratch.{Recalls, Writes, Notes, table_of};
-
-use diagrams::Operation;
+ghost use Rattle.std.specs.Prelude.{◌<◌, IfSome};
+ghost use Rattle.book.specs.Scratch.{Recalls, Writes};
 
 // A union or an intersection that was computed before. An empty entry has zeros, which are no numbers of rows: an `Option` would
 // take a third more of the stack, all of which each call zeroes.

@@ -3,7 +3,7 @@ ghost use Rattle.records.specs.Faults.{record_fault_number};
 use theory::Refusal;
 
 // Why a record was refused.
-#[derive(Clone, Copy, PartialEq, Eq)]
+#[derive(Clone, Copy, Debug, PartialEq, Eq)]
 pub enum RecordFault {
     TooManyPredicates = 9,
     TooManyGoals = 10,

@@ -4,7 +4,9 @@
 --   is_zero             a constant is zero
 --   terms_stated        over so many terms: = and ≠ only, no constant, then what the theory says
 --   differences_stated  over so many variables: ≤ and < only, then what the theory says
-use Rattle.std.specs.Prelude.{ℕ, Bool, false, cond, ℤ, pos, negsuc, Ok, Err, Result, ◌==◌}
+--   in_front            a fact in front of others, or the refusal of the first that is refused
+--   all_stated          the facts of statements, in their order, or why the first that is refused is
+use Rattle.std.specs.Prelude.{ℕ, Bool, false, cond, ℤ, pos, negsuc, List, [], ◌∷◌, Ok, Err, Result, ◌==◌}
 use Rattle.theory.specs.declared.faults.FactFault.{FactFault}
 use Rattle.terms.specs.declared.equal.Relation.TheVariants.{Equal as same, Different as other}
 use Rattle.terms.specs.Facts.{made_fact}
@@ -42,3 +44,12 @@ differences_by Below v s = from_fact (fact_made v below s.left s.right s.constan
 
 abbrev pub differences_stated : ℕ → Statement → Result ℕ Fault
 differences_stated v s = differences_by s.relation v s
+
+abbrev pub in_front : Result ℕ Fault → Result (List ℕ) Fault → Result (List ℕ) Fault
+in_front (Ok n) (Ok ns) = Ok (n ∷ ns)
+in_front (Ok n) (Err fault) = Err fault
+in_front (Err fault) rest = Err fault
+
+abbrev pub all_stated : (Statement → Result ℕ Fault) → List Statement → Result (List ℕ) Fault
+all_stated stated [] = Ok []
+all_stated stated (s ∷ ss) = in_front (stated s) (all_stated stated ss)

@@ -5,10 +5,10 @@ ghost use Rattle.session.specs.Faults.{fault_number};
 use book::QuestionFault;
 use records::RecordFault;
 use terms::TermFault;
-use theory::{FactFault, TheoryFault};
+use theory::{FactFault, Refusal, TheoryFault};
 
 // Why a record was refused: by a check of its own, or by the call below it, whose fault is held whole.
-#[derive(Clone, Copy)]
+#[derive(Clone, Copy, PartialEq, Eq)]
 pub enum Fault {
     Record(RecordFault),
     Term(TermFault),
@@ -17,10 +17,10 @@ pub enum Fault {
     Question(QuestionFault),
 }
 
-impl Fault {
-    pub fn number(&self) -> u8
-        ensures { result ≡ fault_number self.now }
-    {
+impl Refusal for Fault {
+    ghost number = { fault_number };
+
+    fn number(self) -> u8 {
         match self {
             Fault::Record(fault) => fault.number(),
             Fault::Term(fault) => fault.number(),
@@ -31,6 +31,8 @@ impl Fault {
     }
 }
 
+// The kit's derive `thiserror` writes a `From` without a contract, and clauses name the fault that a `?` makes: so each
+// conversion is written out.
 impl From<RecordFault> for Fault {
     ghost from_gives = { λ fault r. r ≡ ofRecord fault };
 

@@ -2,6 +2,7 @@
 
 mod answers;
 mod faults;
+mod questions;
 mod session;
 mod stated;
 

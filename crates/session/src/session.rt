@@ -1,52 +1,82 @@
-ghost use Rattle.std.specs.Prelude.{◌≤◌, IfOk};
+ghost use Rattle.std.specs.Prelude.{◌≡◌, [], IfSome, IfOk, OnErr, is_ok, is_some, if◌then◌else◌};
+ghost use Rattle.records.specs.Pending.{predicates_of, goals_of};
+ghost use Rattle.records.specs.Records.{record_of};
+ghost use Rattle.session.specs.Taking.{first_refusal, predicates_after, goals_after, asks};
 
-use crate::answers::{count, first_equal};
+use crate::answers::{abstraction, question};
 use crate::faults::Fault;
-use crate::stated::{Stated, goals_of, predicates_of};
+use crate::questions::Questions;
+use arrayvec::ArrayVec;
 use book::Book;
 use differences::Differences;
 use equality::Term;
-use records::{Line, Pending, Record, RecordFault, TheoryName, answer_line, read};
+use records::{Line, Pending, Record, RecordFault, TheoryName, read, refusal_line};
 use terms::{Equality, TermTable};
 
-// A session numbers at most so many answers.
-const MOST_ANSWERS: usize = 256;
-
-// What a run over a file of records remembers besides its table and its book: pending predicates and goals, and the
-// numbers of the answers given so far.
+// A run over a file of records: the terms so far, and the questions about them.
 #[derive(Drop)]
-pub struct Session {
-    pending: Pending,
-    answers: [u16; MOST_ANSWERS],
-    answer_count: usize,
-    ghost few: { answer_count ≤ 256 },
+pub struct Session<'s> {
+    table: TermTable<'s>,
+    questions: Questions<'s>,
 }
 
-// The two ways of asking.
-#[derive(Clone, Copy)]
-enum Asking {
-    Question,
-    Abstraction,
-}
-
-impl Session {
-    pub fn new() -> Session {
+impl<'s> Session<'s> {
+    // A session with nothing asked and nothing waiting.
+    pub fn new(table: TermTable<'s>, book: Book<'s>, work: &'s mut [u32]) -> Session<'s>
+        ensures table { result.table ≡ table.entry }
+        ensures book { result.questions.book ≡ book.entry }
+        ensures work { result.questions.work.ghost_name ≡ work.entry.ghost_name }
+        ensures waiting { (predicates_of result.questions.pending ≡ []) × (goals_of result.questions.pending ≡ []) }
+        ensures answers { result.questions.answers.items ≡ [] }
+    {
         Session {
-            pending: Pending::new(),
-            answers: [0; MOST_ANSWERS],
-            answer_count: 0,
+            table,
+            questions: Questions {
+                book,
+                work,
+                pending: Pending::new(),
+                answers: ArrayVec::new(),
+            },
         }
     }
+}
 
-    // One record: nothing to print for a term, a predicate or a goal; the answer's line for a question or an abstraction.
-    // A refused record leaves the pending ones.
-    pub fn take(
+impl Session<'_> {
+    // How many rows of the book are in use.
+    pub fn rows_in_use(&self) -> u16
+        ensures { result ≡ self.now.questions.book.lent.count }
+    {
+        self.questions.book.rows_in_use()
+    }
+
+    // Takes the records of a file one after the other, up to the end or the first that is refused. Each line goes to
+    // `print`: those of the answers, and that of the refusal.
+    pub fn run<E, F: FnMut(Line) -> Result<(), E>>(
         &mut self,
-        table: &mut TermTable<'_>,
-        book: &mut Book<'_>,
-        work: &mut [u32],
-        bytes: &[u8],
-    ) -> Result<Option<Line>, Fault> {
+        records: &[u8],
+        mut print: F,
+    ) -> Result<(), E>
+        requires { F.IsAlwaysCallable print }
+    {
+        for (place, bytes) in (1u64..).zip(records.chunks(8)) {
+            match self.take(bytes) {
+                Ok(None) => {}
+                Ok(Some(line)) => print(line)?,
+                Err(fault) => return print(refusal_line(fault, place)),
+            }
+        }
+        Ok(())
+    }
+
+    // Takes one record: nothing to print for a term, a predicate or a goal, the answer's line for a question or an
+    // abstraction. A refused record leaves what waits.
+    pub fn take(&mut self, bytes: &[u8]) -> Result<Option<Line>, Fault>
+        ensures refused { IfSome (first_refusal self.old (record_of bytes.now)) (λ fault. result ≡ Err fault) }
+        ensures predicates { predicates_of self.new.questions.pending ≡ (if is_ok result then predicates_after (record_of bytes.now) (predicates_of self.old.questions.pending) else predicates_of self.old.questions.pending) }
+        ensures goals { goals_of self.new.questions.pending ≡ (if is_ok result then goals_after (record_of bytes.now) (goals_of self.old.questions.pending) else goals_of self.old.questions.pending) }
+        ensures answers { OnErr result (self.new.questions.answers.items ≡ self.old.questions.answers.items) }
+        ensures line { IfOk result (λ line. is_some line ≡ asks (record_of bytes.now)) }
+    {
         match read(bytes)? {
             Record::Term {
                 arity,
@@ -54,7 +84,7 @@ impl Session {
                 left,
                 right,
             } => {
-                table.add(Term {
+                self.table.add(Term {
                     symbol,
                     arity,
                     left,
@@ -63,95 +93,31 @@ impl Session {
                 Ok(None)
             }
             Record::Predicate(statement) => {
-                self.pending.add_predicate(statement)?;
+                self.questions.pending.add_predicate(statement)?;
                 Ok(None)
             }
             Record::Goal(statement) => {
-                self.pending.add_goal(statement)?;
+                self.questions.pending.add_goal(statement)?;
                 Ok(None)
             }
-            Record::Question(name) => Ok(Some(self.ask(
-                table,
-                book,
-                work,
-                name,
-                Asking::Question,
-            )?)),
-            Record::Abstraction(name) => Ok(Some(self.ask(
-                table,
-                book,
-                work,
-                name,
-                Asking::Abstraction,
-            )?)),
-        }
-    }
-
-    fn ask(
-        &mut self,
-        table: &TermTable<'_>,
-        book: &mut Book<'_>,
-        work: &mut [u32],
-        name: TheoryName,
-        asking: Asking,
-    ) -> Result<Line, Fault> {
-        if self.answer_count >= MOST_ANSWERS {
-            return Err(Fault::Record(RecordFault::TooManyAnswers));
-        }
-        let (number, positions) = match name {
-            TheoryName::Terms => asked(&Equality::new(table), &self.pending, book, work, asking)?,
-            TheoryName::Differences(variables) => asked(
-                &Differences::new(variables)?,
-                &self.pending,
-                book,
-                work,
-                asking,
-            )?,
-        };
-        Ok(self.note(book, number, positions))
-    }
-
-    // Gives the answer its ordinal and its line, and lets the pending records go.
-    fn note(&mut self, book: &Book<'_>, number: u16, positions: u32) -> Line
-        requires { positions ≤ 16 }
-    {
-        let at = self.answer_count;
-        self.pending.clear();
-        if at < MOST_ANSWERS {
-            self.answers[at] = number;
-            self.answer_count = at + 1;
-        }
-        let first = first_equal(&self.answers[0..at], number);
-        answer_line(
-            at as u16 + 1,
-            count(book, number, positions),
-            first as u16 + 1,
-        )
-    }
-}
-
-// The number of the pending question's answer, and how many positions it has.
-fn asked<T: Stated>(
-    theory: &T,
-    pending: &Pending,
-    book: &mut Book<'_>,
-    work: &mut [u32],
-    asking: Asking,
-) -> Result<(u16, u32), Fault>
-    ensures { IfOk result (λ p. p.1 ≤ 16) }
-{
-    let predicates = predicates_of(theory, pending)?;
-    let goals = goals_of(theory, pending)?;
-    let chosen = &predicates[0..pending.predicate_count()];
-    let wanted = &goals[0..pending.goal_count()];
-    match asking {
-        Asking::Question => {
-            let (number, _) = book.question(theory, chosen, wanted, work)?;
-            Ok((number, chosen.len() as u32))
-        }
-        Asking::Abstraction => {
-            let (number, _) = book.abstraction(theory, chosen, wanted, work)?;
-            Ok((number, 2 * chosen.len() as u32))
+            Record::Question(_) | Record::Abstraction(_) if self.questions.answers.is_full() => {
+                Err(RecordFault::TooManyAnswers.into())
+            }
+            Record::Question(TheoryName::Terms) => {
+                self.questions.answer(&Equality::new(&self.table), question)
+            }
+            Record::Question(TheoryName::Differences(variables)) => {
+                self.questions
+                    .answer(&Differences::new(variables)?, question)
+            }
+            Record::Abstraction(TheoryName::Terms) => {
+                self.questions
+                    .answer(&Equality::new(&self.table), abstraction)
+            }
+            Record::Abstraction(TheoryName::Differences(variables)) => {
+                self.questions
+                    .answer(&Differences::new(variables)?, abstraction)
+            }
         }
     }
 }

@@ -1,11 +1,12 @@
-ghost use Rattle.std.specs.Prelude.{◌≡◌, ℕ, Result};
+ghost use Rattle.std.specs.Prelude.{◌≡◌, ℕ, ◌≤◌, length, Result, MatchResult};
 ghost use Rattle.records.specs.declared.record.Statement.{Statement};
 ghost use Rattle.session.specs.declared.faults.Fault.{Fault};
-ghost use Rattle.session.specs.Stated.{terms_stated, differences_stated};
+ghost use Rattle.session.specs.Stated.{terms_stated, differences_stated, all_stated};
 
 use crate::faults::Fault;
+use arrayvec::ArrayVec;
 use differences::{Bound, Differences};
-use records::{Pending, RecordFault, Relation, Statement};
+use records::{RecordFault, Relation, Statement};
 use terms::Equality;
 use theory::Theory;
 
@@ -26,10 +27,10 @@ impl Stated for Equality<'_, '_> {
         let relation = match statement.relation {
             Relation::Equal => terms::Relation::Equal,
             Relation::Different => terms::Relation::Different,
-            _ => return Err(Fault::Record(RecordFault::WrongRelation)),
+            _ => return Err(RecordFault::WrongRelation.into()),
         };
         if statement.constant != 0 {
-            return Err(Fault::Record(RecordFault::NotZero));
+            return Err(RecordFault::NotZero.into());
         }
         Ok(self.fact(relation, statement.left, statement.right)?)
     }
@@ -42,30 +43,24 @@ impl Stated for Differences {
         let bound = match statement.relation {
             Relation::AtMost => Bound::AtMost,
             Relation::Below => Bound::Below,
-            _ => return Err(Fault::Record(RecordFault::WrongRelation)),
+            _ => return Err(RecordFault::WrongRelation.into()),
         };
         Ok(self.fact(bound, statement.left, statement.right, statement.constant)?)
     }
 }
 
-// The facts of the pending predicates, in their order.
-pub(crate) fn predicates_of<T: Stated>(theory: &T, pending: &Pending) -> Result<[u16; 16], Fault> {
-    let mut facts = [0u16; 16];
-    for k in 0..16 {
-        if let Some(statement) = pending.predicate(k) {
-            facts[k] = theory.state(statement)?;
-        }
-    }
-    Ok(facts)
-}
-
-// The facts of the pending goals, in their order.
-pub(crate) fn goals_of<T: Stated>(theory: &T, pending: &Pending) -> Result<[u16; 8], Fault> {
-    let mut facts = [0u16; 8];
-    for k in 0..8 {
-        if let Some(statement) = pending.goal(k) {
-            facts[k] = theory.state(statement)?;
-        }
+// The facts that the statements state, in their order.
+#[tactic(auto, using(crate::proofs::Gathering::one_more))]
+pub(crate) fn facts_of<T: Stated, const MOST: usize>(
+    theory: &T,
+    statements: &[Statement],
+) -> Result<ArrayVec<u16, MOST>, Fault>
+    requires { length statements.now ≤ MOST }
+    ensures { MatchResult result (λ facts. all_stated (T.stated theory.now) statements.now ≡ Ok facts.items) (λ fault. all_stated (T.stated theory.now) statements.now ≡ Err fault) }
+{
+    let mut facts = ArrayVec::new();
+    for statement in statements {
+        facts.push(theory.state(*statement)?);
     }
     Ok(facts)
 }

@@ -5,7 +5,6 @@ use Rattle.std.proofs.lemmas.Bool.Decides.{nat_tests}
 use Rattle.std.proofs.lemmas.List.{get_or_default, get_or-take, get_or-set_same, get_or-set_other, length-set, length-take-le}
 use Rattle.equality.specs.declared.Term.{Term}
 use Rattle.equality.specs.Equality.{Table, term_at, no_term}
-use Rattle.equality.proofs.Tables.{table_out}
 use Rattle.register.specs.Rows.{Absent, Puts}
 use Rattle.terms.specs.Adding.{refusal}
 
@@ -75,9 +74,9 @@ module _ (rows : List Term) (n : ℕ) (t : Term) (within : n < length rows) wher
 
 pub record Kept (rows : List Term) (n : ℕ) : Type 0 where
   pub few : n ≤ 24
-  pub table : ∥ Table (take n rows) ∥₁
+  pub table : Table (take n rows)
 
-module _ (rows : List Term) (n : ℕ) (t : Term) (rows' : List Term) (n' : ℕ) (few : n ≤ 24) (tab : ∥ Table (take n rows) ∥₁) where
+module _ (rows : List Term) (n : ℕ) (t : Term) (rows' : List Term) (n' : ℕ) (few : n ≤ 24) (tab : Table (take n rows)) where
   unchanged : rows' ≡ rows → n' ≡ n → Kept rows' n'
   unchanged e f = rw (e, f) record { few = few; table = tab }
 
@@ -87,5 +86,5 @@ module _ (rows : List Term) (n : ℕ) (t : Term) (rows' : List Term) (n' : ℕ) 
   puts_kept room (Some i) (inr (e, lt, absent, f, g)) small within fits =
       rw (f, g) record {
         few = omega arith;
-        table = ∣ table_more rows n t (omega arith) (omega arith) fits absent (table_out (take n rows) tab) ∣₁;
+        table = table_more rows n t (omega arith) (omega arith) fits absent tab;
       }

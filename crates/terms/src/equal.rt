@@ -1,7 +1,6 @@
 ghost use Rattle.std.specs.Prelude.{◌≡◌, ◌<◌};
 ghost use Rattle.theory.specs.Theory.{Lawful};
 ghost use Rattle.equality.specs.Equality.{equality, rule_at, Place.Applied};
-ghost use Rattle.equality.proofs.Tables.{table_out};
 ghost use Rattle.equality.proofs.Laws.{equality_is_lawful};
 ghost use Rattle.terms.specs.Facts.{terms_of, made_fact};
 
@@ -84,7 +83,7 @@ impl Theory for Equality<'_, '_> {
 
     ghost truth = { λ e. (equality (terms_of e.table.now)).truth };
 
-    ghost lawful = { λ e. equality_is_lawful (terms_of e.table.now) (table_out (terms_of e.table.now) e.table.now.table) };
+    ghost lawful = { λ e. equality_is_lawful (terms_of e.table.now) e.table.now.table };
 
     fn facts(&self) -> u16 {
         2 * self.table.numbering().square()

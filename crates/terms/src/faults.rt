@@ -3,7 +3,7 @@ ghost use Rattle.terms.specs.Faults.{term_fault_number};
 use theory::Refusal;
 
 // Why a term was not added.
-#[derive(Clone, Copy, PartialEq, Eq)]
+#[derive(Clone, Copy, Debug, PartialEq, Eq)]
 pub enum TermFault {
     TooManyArguments = 1,
     NoEarlierTerm = 2,

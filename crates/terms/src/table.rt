@@ -15,7 +15,7 @@ const MOST_TERMS: usize = 24;
 pub struct TermTable<'a> {
     lent: Register<'a, Term>,
     ghost few: { lent.count ≤ 24 },
-    ghost table: { ∥ Table (take lent.count lent.rows.now) ∥₁ },
+    ghost table: { Table (take lent.count lent.rows.now) },
 }
 
 impl<'a> TermTable<'a> {

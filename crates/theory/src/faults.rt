@@ -10,13 +10,13 @@ pub trait Refusal: Copy {
 }
 
 // Why a theory was not made.
-#[derive(Clone, Copy, PartialEq, Eq)]
+#[derive(Clone, Copy, Debug, PartialEq, Eq)]
 pub enum TheoryFault {
     TooManyVariables = 5,
 }
 
 // Why a fact was not made.
-#[derive(Clone, Copy, PartialEq, Eq)]
+#[derive(Clone, Copy, Debug, PartialEq, Eq)]
 pub enum FactFault {
     NoTerm = 6,
     NoVariable = 7,

@@ -1,12 +1,12 @@
 use book::{BookFault, QuestionFault};
 use std::alloc::AllocError;
-use std::{fmt, io};
+use std::io;
 use terms::TermFault;
 use theory::{FactFault, Refusal, TheoryFault};
 use thiserror::Error;
 
 // Why the walkthrough stopped: a call was refused, memory ran out, or a line was not printed.
-#[derive(Drop, Error)]
+#[derive(Debug, Drop, Error)]
 pub enum Stop {
     #[error("refused {}", .0.number())]
     Term(#[from] TermFault),
@@ -22,11 +22,4 @@ pub enum Stop {
     Memory(#[from(alloc)] AllocError),
     #[error(transparent)]
     Printing(#[from] io::Error),
-}
-
-// By hand, since the faults derive no `Debug`.
-impl fmt::Debug for Stop {
-    fn fmt<W: fmt::Write>(&self, f: &mut fmt::Formatter<W>) -> fmt::Result {
-        write!(f, "{self}")
-    }
 }

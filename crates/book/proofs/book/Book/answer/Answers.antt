@@ -1,5 +1,4 @@
 use Rattle.theory.specs.Abstraction.{ask}
-use Rattle.diagrams.proofs.Leaves.{kept_out}
 use Rattle.book.proofs.Ending.{answered, given_back}
 use Rattle.book.proofs.book.Book.answer.Goals as goal
 
@@ -10,5 +9,4 @@ returns-clause-asked g c =
 
 pub invariant_of-self : goal.invariant_of-self
 invariant_of-self g c =
-    let t = c.args.self.now.lent in
-    record { kept = ∣ given_back c.sized.ensures.enlarged c.give_back.new.register (kept_out t.rows.now t.count c.args.self.now.kept) c.give_back.ensures.cleared ∣₁ }
+    record { kept = given_back c.sized.ensures.enlarged c.give_back.new.register c.args.self.now.kept c.give_back.ensures.cleared }

@@ -1,7 +1,6 @@
 use Rattle.std.proofs.Common.{Ok, Err, arith}
 use Rattle.diagrams.specs.Diagram.{RowOf}
 use Rattle.diagrams.specs.Books.{book_of, union_or_intersection}
-use Rattle.diagrams.proofs.Leaves.{kept_out}
 use Rattle.book.specs.declared.faults.BookFault.TheVariants.{Full}
 use Rattle.book.specs.Runs.{join}
 use Rattle.book.proofs.Ending.{joined, given_back, refused}
@@ -10,15 +9,14 @@ use Rattle.book.proofs.book.Book.join.Goals as goal
 
 pub invariant_of-self : goal.invariant_of-self
 invariant_of-self c =
-    let t = c.args.self.now.lent in
-    record { kept = ∣ given_back c.join_sized.ensures.enlarged c.give_back.new.register (kept_out t.rows.now t.count c.args.self.now.kept) c.give_back.ensures.cleared ∣₁ }
+    record { kept = given_back c.join_sized.ensures.enlarged c.give_back.new.register c.args.self.now.kept c.give_back.ensures.cleared }
 
 pub returns-in_default-clause-continues : goal.returns-in_default-clause-continues
 returns-in_default-clause-continues c =
     let t = c.args.self.now.lent in
     let u = c.give_back.new.register in
     let s = union_or_intersection c.args.op t.rows.now c.args.left c.args.right in
-    let full = refused c.join_sized.ensures.enlarged u (kept_out t.rows.now t.count c.args.self.now.kept) c.give_back.ensures.cleared (RowOf s) c.in_default.ensures.applied in
+    let full = refused c.join_sized.ensures.enlarged u c.args.self.now.kept c.give_back.ensures.cleared (RowOf s) c.in_default.ensures.applied in
     goes_on (book_of t.rows.now t.count) (join c.args.op c.args.left c.args.right) (Err Full) (book_of u.rows.now u.count) tt (omega arith, omega arith, full)
 
 pub returns-clause-joins : goal.returns-clause-joins

@@ -7,7 +7,7 @@ use Rattle.book.proofs.book.Book.open.Goals as goal
 pub invariant_of-result : goal.invariant_of-result
 invariant_of-result c =
     let r = c.cleared-lent.result in
-    record { kept = ∣ subst (KeptBook r.rows.now) (sym c.cleared-lent.ensures.none) (kept_opening c.args.rows.now r.rows.now c.cleared-lent.ensures.cleared) ∣₁ }
+    record { kept = subst (KeptBook r.rows.now) (sym c.cleared-lent.ensures.none) (kept_opening c.args.rows.now r.rows.now c.cleared-lent.ensures.cleared) }
 
 pub returns : goal.returns
 returns c =

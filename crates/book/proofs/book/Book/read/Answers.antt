@@ -1,7 +1,6 @@
 use Rattle.std.proofs.Common.{Ok, Err, refl, arith}
 use Rattle.diagrams.specs.Books.{book_of}
 use Rattle.diagrams.proofs.Canonical.{equal_sets_one_number}
-use Rattle.diagrams.proofs.Following.{kept_sound}
 use Rattle.book.specs.declared.faults.BookFault.TheVariants.{NotHeld}
 use Rattle.book.specs.Runs.{reading}
 use Rattle.book.proofs.Stepping.{goes_on}
@@ -15,7 +14,7 @@ returns-then-not-holds c =
     let b = book_of c.args.self.now.lent.rows.now c.args.self.now.lent.count in
     record {
       reads = (grind arith, refl);
-      canonical = equal_sets_one_number _ _ (kept_sound c.args.self.now.kept);
+      canonical = equal_sets_one_number _ _ c.args.self.now.kept.sound;
       continues = goes_on b (reading c.args.number c.args.choice) (Err NotHeld) b tt ((grind arith, refl), refl);
     }
 
@@ -24,6 +23,6 @@ returns c =
     let b = book_of c.args.self.now.lent.rows.now c.args.self.now.lent.count in
     record {
       reads = (omega arith, c.follow.ensures);
-      canonical = equal_sets_one_number _ _ (kept_sound c.args.self.now.kept);
+      canonical = equal_sets_one_number _ _ c.args.self.now.kept.sound;
       continues = goes_on b (reading c.args.number c.args.choice) (Ok c.follow.result) b tt ((omega arith, c.follow.ensures), refl);
     }

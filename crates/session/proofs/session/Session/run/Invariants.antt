@@ -1,0 +1,7 @@
+use Rattle.session.proofs.session.Session.run.Given as goal
+
+abbrev pub invariant-loop-place : goal.invariant-loop-place
+invariant-loop-place g l =
+    (goal.iterator-loop-place g).can_next l.place-iterator
+    × (goal.iterator-loop-place g).is_finite l.place-iterator
+    × goal.F-IsAlwaysCallable g l.print
