@@ -1,122 +1,62 @@
+ghost use Rattle.std.specs.Prelude.{◌≤◌};
+
 use book::Book;
 use diagrams::Row;
 use equality::Term;
-use records::{Line, refusal_line};
+use records::Line;
 use session::Session;
+use std::convert::Infallible;
+use std::fmt::Display;
 use std::io;
-use std::io::Write;
 use terms::TermTable;
 
-pub const BLANK_ROW: Row = Row {
-    position: 0,
-    without: 0,
-    with: 0,
-};
+// A record of a file.
+pub type Record = [u8; 8];
 
-pub const BLANK_TERM: Term = Term {
-    symbol: 0,
-    arity: 0,
-    left: 0,
-    right: 0,
-};
+// A trial: its name, and the parts of its file, one after the other.
+pub type Trial<'t> = (&'t str, &'t [&'t [Record]]);
 
-const NOTHING: Line = Line {
-    bytes: [0; 48],
-    len: 0,
-};
-
-// Where a run stands: its last line, how many records it took, and whether the last was refused.
-#[derive(Clone, Copy)]
-struct Standing {
-    last: Line,
-    taken: u64,
-    refused: bool,
+// The last line that a run over a file prints, in so much memory.
+fn last_line<const ROWS: usize, const TERMS: usize, const WORK: usize>(file: &[u8]) -> Line
+    requires rows { ROWS ≤ 65536 }
+    requires terms { TERMS ≤ 65536 }
+    requires work { WORK ≤ 65536 }
+{
+    let mut rows = [Row::default(); ROWS];
+    let mut terms = [Term::default(); TERMS];
+    let mut work = [0u32; WORK];
+    let table = TermTable::open(&mut terms);
+    let book = Book::open(&mut rows);
+    let mut session = Session::new(table, book, &mut work);
+    let mut last = Line::new();
+    let Ok(()) = session.run(file, |line| {
+        last = line;
+        Ok::<(), Infallible>(())
+    });
+    last
 }
 
-const START: Standing = Standing {
-    last: NOTHING,
-    taken: 0,
-    refused: false,
-};
-
-fn after_part(
-    session: &mut Session,
-    table: &mut TermTable<'_>,
-    book: &mut Book<'_>,
-    work: &mut [u32],
-    part: &[[u8; 8]],
-    before: Standing,
-) -> Standing {
-    let mut standing = before;
-    for record in part {
-        if standing.refused {
-            return standing;
-        }
-        standing.taken = standing.taken.saturating_add(1);
-        match session.take(table, book, work, record) {
-            Ok(None) => {}
-            Ok(Some(line)) => standing.last = line,
-            Err(fault) => {
-                standing.last = refusal_line(fault.number(), standing.taken);
-                standing.refused = true;
-            }
-        }
-    }
-    standing
-}
-
-fn after_parts(
-    table: &mut TermTable<'_>,
-    book: &mut Book<'_>,
-    work: &mut [u32],
-    parts: &[&[[u8; 8]]],
-) -> Standing {
-    let mut session = Session::new();
-    let mut standing = START;
-    for part in parts {
-        standing = after_part(&mut session, table, book, work, part, standing);
-    }
-    standing
-}
-
-// The last line that a run over the parts of a file prints, one part after the other.
-fn last_line(parts: &[&[[u8; 8]]]) -> Line {
-    let mut rows = [BLANK_ROW; 4096];
-    let mut terms = [BLANK_TERM; 24];
-    let mut work = [0u32; 16384];
-    let mut book = Book::open(&mut rows);
-    let mut table = TermTable::open(&mut terms);
-    after_parts(&mut table, &mut book, &mut work, parts).last
-}
-
-// What a file of so few bytes prints.
-fn cut_line(bytes: &[u8]) -> Line {
-    let mut rows = [BLANK_ROW; 1];
-    let mut terms = [BLANK_TERM; 1];
-    let mut work = [0u32; 1];
-    let mut book = Book::open(&mut rows);
-    let mut table = TermTable::open(&mut terms);
-    match Session::new().take(&mut table, &mut book, &mut work, bytes) {
-        Ok(None) => NOTHING,
-        Ok(Some(line)) => line,
-        Err(fault) => refusal_line(fault.number(), 1),
-    }
-}
-
-fn show(rt: &HostRuntime, name: &str, line: &Line) -> io::Result<()> {
+fn show(rt: &impl Print, name: impl Display + Drop, line: &Line) -> io::Result<()> {
     print!(rt; "{name}: ")?;
-    let end = line.len.min(line.bytes.len());
-    if end == 0 {
-        return println!(rt; "nothing");
+    match line.text() {
+        [] => println!(rt; "nothing"),
+        text => rt.write_all(text),
     }
-    let mut out = rt.stdout();
-    out.write_all(&line.bytes[0..end])
 }
 
-pub fn trial(rt: &HostRuntime, name: &str, parts: &[&[[u8; 8]]]) -> io::Result<()> {
-    show(rt, name, &last_line(parts))
+// A trial of a file of records.
+pub fn trial(rt: &(impl Print + AllocGlobal), name: &str, parts: &[&[Record]]) -> io::Result<()> {
+    let file: Vec<u8> = parts
+        .iter()
+        .copied()
+        .flatten()
+        .flatten()
+        .copied()
+        .collect(rt.alloc())?;
+    show(rt, name, &last_line::<4096, 24, 16384>(file.as_slice()))
 }
 
-pub fn cut_trial(rt: &HostRuntime, name: &str, bytes: &[u8]) -> io::Result<()> {
-    show(rt, name, &cut_line(bytes))
+// A trial of a file that ends within its first record.
+pub fn cut_trial(rt: &impl Print, name: impl Display + Drop, file: &[u8]) -> io::Result<()> {
+    show(rt, name, &last_line::<1, 1, 1>(file))
 }
