@@ -9,7 +9,8 @@ ghost use Rattle.book.specs.Runs.{impossible, Given, Run};
 ghost use Rattle.comparison.specs.declared.Stopped.TheVariants.{Question as byQuestion, Join as byJoin};
 ghost use Rattle.comparison.specs.Comparing.{Leads, Compared};
 
-use book::{Book, BookFault, Inquiry, QuestionFault};
+pub use book::Inquiry;
+use book::{Book, BookFault, QuestionFault};
 use diagrams::Operation;
 use theory::Theory;
 

@@ -1,4 +1,4 @@
-use crate::runs::{Record, cut_trial, trial};
+use crate::trying::{Record, cut_trial, trial};
 use std::io;
 
 fn cut_files(rt: &impl Print) -> io::Result<()> {

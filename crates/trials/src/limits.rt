@@ -1,4 +1,4 @@
-use crate::runs::{Record, Trial, trial};
+use crate::trying::{Record, Trial, trial};
 use std::io;
 
 // Two names.

@@ -3,9 +3,9 @@
 mod files;
 mod library;
 mod limits;
-mod runs;
+mod trying;
 
-use crate::runs::{Record, trial};
+use crate::trying::{Record, trial};
 use std::io;
 
 // The sample file: three questions.
