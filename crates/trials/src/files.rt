@@ -1,6 +1,7 @@
 use crate::trying::{Record, cut_trial, trial};
 use std::io;
 
+// A record cut short after each of its bytes, and whole.
 fn cut_files(rt: &impl Print) -> io::Result<()> {
     let file = b"T\0\0\x01\0\0\0\0";
     for count in 1..=8 {
@@ -20,6 +21,7 @@ fn term(number: u8) -> Record {
     }
 }
 
+// A term, and the number of one, behind the last that a table has room for.
 fn full_tables(rt: &(impl Print + AllocGlobal)) -> io::Result<()> {
     let terms: Vec<Record> = (0..24).map(term).collect(rt.alloc())?;
     let ask = [*b"AU\0\0\0\0\0\0"];

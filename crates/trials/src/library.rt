@@ -83,6 +83,7 @@ fn eight_terms() -> [Term; 8] {
     ]
 }
 
+// Adds terms, none of which is refused.
 fn add_all(table: &mut TermTable<'_>, terms: &[Term]) -> anyhow::Result<()> {
     for term in terms {
         table.add(*term).map_err(refused)?;
@@ -95,6 +96,7 @@ fn equal(theory: &Equality<'_, '_>, left: u8, right: u8) -> anyhow::Result<u16> 
     theory.fact(Relation::Equal, left, right).map_err(refused)
 }
 
+// What equalities follow from others.
 fn equalities(rt: &impl Print) -> anyhow::Result<()> {
     let mut rows = [Term::default(); 24];
     let mut table = TermTable::open(&mut rows);
@@ -135,6 +137,7 @@ fn equalities(rt: &impl Print) -> anyhow::Result<()> {
     )
 }
 
+// What bounds follow from others, and which cannot all hold.
 fn bounds(rt: &impl Print) -> anyhow::Result<()> {
     let theory = Differences::new(3).map_err(refused)?;
     let at_most = |left, right, constant| {
@@ -184,6 +187,7 @@ fn rooms(rt: &impl Print) -> anyhow::Result<()> {
     ask::<_, 3, 37>(rt, "12: 37 numbers to work in for 18 facts", &inquiry)
 }
 
+// The last fact of three terms, and the number behind it.
 fn facts(rt: &impl Print) -> anyhow::Result<()> {
     let mut terms = [Term::default(); 3];
     let mut table = TermTable::open(&mut terms);

@@ -173,6 +173,7 @@ const ORDERS: [Trial<'static>; 9] = [
     ("6 before 9", &[&[A], &[NO_TERM; 9], &[ABSTRACT]]),
 ];
 
+// Tries each trial of a table.
 fn try_all(rt: &(impl Print + AllocGlobal), trials: &[Trial<'_>]) -> io::Result<()> {
     for (name, parts) in trials {
         trial(rt, name, parts)?;

@@ -26,6 +26,7 @@ const SAMPLE: [Record; 14] = [
     *b"AD\x03\0\0\0\0\0",
 ];
 
+// The sample file up to each of its questions.
 fn sample_lines(rt: &(impl Print + AllocGlobal)) -> io::Result<()> {
     trial(rt, "empty file", &[&SAMPLE[..0]])?;
     trial(rt, "sample, first question", &[&SAMPLE[..7]])?;

@@ -36,6 +36,7 @@ fn last_line<const ROWS: usize, const TERMS: usize, const WORK: usize>(file: &[u
     last
 }
 
+// Prints the name of a trial and its line.
 fn show(rt: &impl Print, name: impl Display + Drop, line: &Line) -> io::Result<()> {
     print!(rt; "{name}: ")?;
     match line.text() {

@@ -7,12 +7,14 @@ use std::fmt;
 pub struct Choice(pub u16);
 
 impl Choice {
+    // Whether a position is chosen.
     pub fn has(self, position: u32) -> bool
         ensures { IsTrue result → position < 16 }
     {
         position < 16 && (self.0 >> position) % 2 == 1
     }
 
+    // The choice with the position left out.
     pub fn without(self, position: u32) -> Choice {
         if self.has(position) {
             Choice(self.0 ^ (1 << position))

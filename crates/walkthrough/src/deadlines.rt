@@ -17,6 +17,7 @@ enum Tick {
     Done,
 }
 
+// How many ticks there are.
 const TICKS: u8 = 6;
 
 // What may be said of starts and deadlines: how the left tick is bounded by the right one plus the constant.
@@ -41,6 +42,7 @@ impl Statement<Differences> for Claim {
     }
 }
 
+// The statements whose choices are told, each at its position.
 const PREDICATES: [Claim; 8] = [
     Claim {
         words: "render runs first, at least 9 ticks before the lock is free: render <= free - 9",
@@ -100,6 +102,7 @@ const PREDICATES: [Claim; 8] = [
     },
 ];
 
+// The steps by which the lock inversion with the deadline met is dropped.
 const STEPS: [Claim; 4] = [
     Claim {
         words: "reroute starts at least 9 ticks after render: render <= reroute - 9",
@@ -131,6 +134,7 @@ const STEPS: [Claim; 4] = [
     },
 ];
 
+// What some cases of the first four predicates force.
 const GOAL: Claim = Claim {
     words: "reroute misses its deadline: asked < done - 12",
     left: Tick::Asked,
@@ -139,12 +143,14 @@ const GOAL: Claim = Claim {
     constant: -12,
 };
 
+// Tells of starts and deadlines.
 pub fn tell(rt: &(impl Print + AllocGlobal), book: &mut Book<'_>) -> Result<(), Stop> {
     let theory = Differences::new(TICKS)?;
     tell_choices(rt, book, &theory)?;
     tell_goal(rt, book, &theory)
 }
 
+// Which statements cannot all be true, and why.
 fn tell_choices(
     rt: &(impl Print + AllocGlobal),
     book: &mut Book<'_>,
@@ -172,6 +178,7 @@ fn tell_choices(
     teller.tell_steps(contrary, &STEPS)
 }
 
+// Which cases make reroute miss its deadline.
 fn tell_goal(
     rt: &(impl Print + AllocGlobal),
     book: &mut Book<'_>,

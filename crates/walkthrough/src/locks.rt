@@ -25,6 +25,7 @@ const HOLDER: u16 = 10;
 
 const WAITS: u16 = 11;
 
+// A name without arguments.
 fn named(symbol: u16) -> Term {
     Term {
         symbol,
@@ -32,6 +33,7 @@ fn named(symbol: u16) -> Term {
     }
 }
 
+// A function of one argument.
 fn of(symbol: u16, argument: Thing) -> Term {
     Term {
         symbol,
@@ -80,6 +82,7 @@ impl Statement<Equality<'_, '_>> for Claim {
     }
 }
 
+// The statements whose choices are told, each at its position.
 const PREDICATES: [Claim; 6] = [
     Claim {
         words: "prefetch holds the cache lock: holder(cache) = prefetch",
@@ -119,6 +122,7 @@ const PREDICATES: [Claim; 6] = [
     },
 ];
 
+// The opposite of the last predicate.
 const ONE_TASK: Claim = Claim {
     words: "prefetch and render are one task, against 5: prefetch = render",
     left: Thing::Prefetch,
@@ -126,6 +130,7 @@ const ONE_TASK: Claim = Claim {
     right: Thing::Render,
 };
 
+// The steps by which the path of the lock inversion with 4 is dropped.
 const STEPS: [Claim; 4] = [
     Claim {
         words: "reroute waits for the holder of the cache lock: holder(waits(reroute)) = holder(cache)",
@@ -148,6 +153,7 @@ const STEPS: [Claim; 4] = [
     ONE_TASK,
 ];
 
+// What some cases of the first four predicates force.
 const GOAL: Claim = Claim {
     words: "reroute waits for a task that does not run: holder(waits(reroute)) != running",
     left: Thing::Awaited,
@@ -155,6 +161,7 @@ const GOAL: Claim = Claim {
     right: Thing::Running,
 };
 
+// Tells who holds which lock.
 pub fn tell(rt: &(impl Print + AllocGlobal), book: &mut Book<'_>) -> Result<(), Stop> {
     let mut rows = [Term::default(); 24];
     let mut table = TermTable::open(&mut rows);
@@ -164,6 +171,7 @@ pub fn tell(rt: &(impl Print + AllocGlobal), book: &mut Book<'_>) -> Result<(), 
     tell_goal(rt, book, &theory)
 }
 
+// Which statements cannot all be true, and why.
 fn tell_choices(
     rt: &(impl Print + AllocGlobal),
     book: &mut Book<'_>,

@@ -11,6 +11,7 @@ use book::Book;
 use diagrams::Row;
 use std::io;
 
+// What it is about, in four lines.
 fn introduce(rt: &impl Print) -> io::Result<()> {
     println!(rt;
         "A navigation unit. The tile prefetch, of low priority, holds the cache lock; the map"
@@ -24,6 +25,7 @@ fn introduce(rt: &impl Print) -> io::Result<()> {
     println!(rt; "be true, and kept otherwise.")
 }
 
+// The walkthrough, over one book.
 fn walk(rt: &(impl Print + AllocGlobal)) -> Result<(), Stop> {
     let mut rows = [Row::default(); 4096];
     let mut book = Book::open(&mut rows);
@@ -32,6 +34,7 @@ fn walk(rt: &(impl Print + AllocGlobal)) -> Result<(), Stop> {
     deadlines::tell(rt, &mut book)
 }
 
+// A refusal is told in a line; where printing fails, the program does.
 fn main(rt: HostRuntime) -> io::Result<()> {
     match walk(&rt) {
         Err(Stop::Printing(error)) => Err(error),

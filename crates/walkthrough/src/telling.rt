@@ -28,7 +28,8 @@ fn facts<T, S: Statement<T>>(
 pub struct Answer(u16);
 
 // Asks about predicates, which are statements of a theory, and tells what the book answers.
-// With one lifetime for the three references the borrow checker does not cover the functions that make a teller.
+// A lifetime for each reference: with one for all, the checker does not cover what makes a teller, since then "a struct
+// holds at one lifetime parameter two references at two lifetimes of the signature".
 #[derive(Drop)]
 pub struct Teller<'r, 'l, 'b, 't, R, T> {
     rt: &'r R,
@@ -38,6 +39,7 @@ pub struct Teller<'r, 'l, 'b, 't, R, T> {
 }
 
 impl<'r, 'l, 'b, 't, R: Print + AllocGlobal, T: Theory> Teller<'r, 'l, 'b, 't, R, T> {
+    // Takes statements as predicates.
     pub fn new<S: Statement<T>>(
         rt: &'r R,
         book: &'l mut Book<'b>,
