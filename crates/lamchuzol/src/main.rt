@@ -12,11 +12,9 @@ fn serve(rt: &HostRuntime, records: &[u8]) -> anyhow::Result<()> {
     let mut rows = [Row::default(); 4096];
     let mut terms = [Term::default(); 24];
     let mut work = [0u32; 16384];
-    let mut session = Session::new(
-        TermTable::open(&mut terms),
-        Book::open(&mut rows),
-        &mut work,
-    );
+    let mut table = TermTable::open(&mut terms);
+    let mut book = Book::open(&mut rows);
+    let mut session = Session::new(&mut table, &mut book, &mut work);
     let mut out = rt.stdout();
     session.run(records, |line| out.write_all(line.text()))?;
     Ok(())

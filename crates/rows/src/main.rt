@@ -13,11 +13,9 @@ fn rows_after(records: &[u8]) -> u16 {
     let mut rows = [Row::default(); 4096];
     let mut terms = [Term::default(); 24];
     let mut work = [0u32; 16384];
-    let mut session = Session::new(
-        TermTable::open(&mut terms),
-        Book::open(&mut rows),
-        &mut work,
-    );
+    let mut table = TermTable::open(&mut terms);
+    let mut book = Book::open(&mut rows);
+    let mut session = Session::new(&mut table, &mut book, &mut work);
     let Ok(()) = session.run::<Infallible, _>(records, |_| Ok(()));
     session.rows_in_use()
 }

@@ -41,11 +41,11 @@ theory_refused (Differences v) count ps gs = cond (nat_lt 8 v) (Some (Theory Too
 abbrev pub asking_refused : Session → TheoryName → Option Fault
 asking_refused s name =
     cond (array_vec_len s.questions.answers == 256) (Some (Record TooManyAnswers))
-    (theory_refused name s.table.lent.count (predicates_of s.questions.pending) (goals_of s.questions.pending))
+    (theory_refused name s.table.now.lent.count (predicates_of s.questions.pending) (goals_of s.questions.pending))
 
 abbrev pub first_refusal : Session → Result Said RecordFault → Option Fault
 first_refusal s (Err fault) = Some (Record fault)
-first_refusal s (Ok (of_term arity symbol left right)) = option_map Term (refusal s.table.lent.count (record { symbol = symbol; arity = arity; left = left; right = right }))
+first_refusal s (Ok (of_term arity symbol left right)) = option_map Term (refusal s.table.now.lent.count (record { symbol = symbol; arity = arity; left = left; right = right }))
 first_refusal s (Ok (Predicate p)) = cond (nat_lt (length (predicates_of s.questions.pending)) 16) None (Some (Record TooManyPredicates))
 first_refusal s (Ok (Goal g)) = cond (nat_lt (length (goals_of s.questions.pending)) 8) None (Some (Record TooManyGoals))
 first_refusal s (Ok (Question name)) = asking_refused s name

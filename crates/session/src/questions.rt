@@ -16,14 +16,14 @@ pub(crate) const MOST_ANSWERS: usize = 256;
 // The questions of a session: what waits for the next one, the book and the work slice that they are answered with, and
 // the numbers of the answers given so far.
 #[derive(Drop)]
-pub(crate) struct Questions<'s> {
-    pub(crate) book: Book<'s>,
+pub(crate) struct Questions<'s, 'b> {
+    pub(crate) book: &'s mut Book<'b>,
     pub(crate) work: &'s mut [u32],
     pub(crate) pending: Pending,
     pub(crate) answers: ArrayVec<u16, MOST_ANSWERS>,
 }
 
-impl Questions<'_> {
+impl Questions<'_, '_> {
     // Asks what waits, and gives the answer's line.
     pub(crate) fn answer<
         T: Stated,
@@ -44,7 +44,7 @@ impl Questions<'_> {
             predicates: predicates.as_slice(),
             goals: goals.as_slice(),
         };
-        let answer = ask(&mut self.book, &inquiry, self.work)?;
+        let answer = ask(self.book, &inquiry, self.work)?;
         Ok(Some(self.note(answer)))
     }
 
@@ -59,7 +59,7 @@ impl Questions<'_> {
         self.pending.clear();
         answer_line(
             self.answers.len() as u16,
-            answer.count(&self.book),
+            answer.count(self.book),
             first as u16,
         )
     }

@@ -15,16 +15,20 @@ use terms::{Equality, TermTable};
 
 // A run over a file of records: the terms so far, and the questions about them.
 #[derive(Drop)]
-pub struct Session<'s> {
-    table: TermTable<'s>,
-    questions: Questions<'s>,
+pub struct Session<'s, 't, 'b> {
+    table: &'s mut TermTable<'t>,
+    questions: Questions<'s, 'b>,
 }
 
-impl<'s> Session<'s> {
+impl<'s, 't, 'b> Session<'s, 't, 'b> {
     // A session with nothing asked and nothing waiting.
-    pub fn new(table: TermTable<'s>, book: Book<'s>, work: &'s mut [u32]) -> Session<'s>
-        ensures table { result.table ≡ table.entry }
-        ensures book { result.questions.book ≡ book.entry }
+    pub fn new(
+        table: &'s mut TermTable<'t>,
+        book: &'s mut Book<'b>,
+        work: &'s mut [u32],
+    ) -> Session<'s, 't, 'b>
+        ensures table { result.table.ghost_name ≡ table.entry.ghost_name }
+        ensures book { result.questions.book.ghost_name ≡ book.entry.ghost_name }
         ensures work { result.questions.work.ghost_name ≡ work.entry.ghost_name }
         ensures waiting { (predicates_of result.questions.pending ≡ []) × (goals_of result.questions.pending ≡ []) }
         ensures answers { result.questions.answers.items ≡ [] }
@@ -41,10 +45,10 @@ impl<'s> Session<'s> {
     }
 }
 
-impl Session<'_> {
+impl Session<'_, '_, '_> {
     // How many rows of the book are in use.
     pub fn rows_in_use(&self) -> u16
-        ensures { result ≡ self.now.questions.book.lent.count }
+        ensures { result ≡ self.now.questions.book.now.lent.count }
     {
         self.questions.book.rows_in_use()
     }
@@ -104,7 +108,7 @@ impl Session<'_> {
                 Err(RecordFault::TooManyAnswers.into())
             }
             Record::Question(TheoryName::Terms) => {
-                self.questions.answer(&Equality::new(&self.table), question)
+                self.questions.answer(&Equality::new(self.table), question)
             }
             Record::Question(TheoryName::Differences(variables)) => {
                 self.questions
@@ -112,7 +116,7 @@ impl Session<'_> {
             }
             Record::Abstraction(TheoryName::Terms) => {
                 self.questions
-                    .answer(&Equality::new(&self.table), abstraction)
+                    .answer(&Equality::new(self.table), abstraction)
             }
             Record::Abstraction(TheoryName::Differences(variables)) => {
                 self.questions

@@ -25,9 +25,9 @@ fn last_line<const ROWS: usize, const TERMS: usize, const WORK: usize>(file: &[u
     let mut rows = [Row::default(); ROWS];
     let mut terms = [Term::default(); TERMS];
     let mut work = [0u32; WORK];
-    let table = TermTable::open(&mut terms);
-    let book = Book::open(&mut rows);
-    let mut session = Session::new(table, book, &mut work);
+    let mut table = TermTable::open(&mut terms);
+    let mut book = Book::open(&mut rows);
+    let mut session = Session::new(&mut table, &mut book, &mut work);
     let mut last = Line::new();
     let Ok(()) = session.run(file, |line| {
         last = line;
