@@ -9,13 +9,19 @@
 --   predicates_after  the predicates that wait after a record that is not refused
 --   goals_after       the goals
 --   asks              whether a record is a question or an abstraction
-use Rattle.std.specs.Prelude.{ℕ, Bool, true, false, cond, List, [], ◌∷◌, ◌++◌, length, Some, None, Ok, Err, Option, Result, ◌==◌, nat_lt}
+--   Accepted          a predicate or a goal that no check refuses is taken
+--   told              what is answered for a term, by its number in the table or why it is not there
+--   TableAfter        a term is added to the table, and no other record changes it
+use Rattle.std.specs.Prelude.{◌≡◌, ℕ, Bool, true, false, cond, List, [], ◌∷◌, ◌++◌, length, Some, None, Ok, Err, Option, Result, ◌==◌, nat_lt}
 use Rattle.arrayvec.specs.ArrayVec.{array_vec_len}
 use Rattle.std.specs.Option.{option_map}
 use Rattle.theory.specs.declared.faults.TheoryFault.TheVariants.{TooManyVariables}
-use Rattle.terms.specs.Adding.{refusal}
+use Rattle.equality.specs.declared.Term.{Term as Row}
+use Rattle.terms.specs.declared.faults.TermFault.{TermFault}
+use Rattle.terms.specs.Adding.{refusal, Adds}
 use Rattle.records.specs.declared.faults.RecordFault.{RecordFault}
 use Rattle.records.specs.declared.faults.RecordFault.TheVariants.{TooManyPredicates, TooManyGoals, TooManyAnswers}
+use Rattle.records.specs.declared.line.Line.{Line}
 use Rattle.records.specs.declared.record.Statement.{Statement}
 use Rattle.records.specs.declared.record.TheoryName.{TheoryName}
 use Rattle.records.specs.declared.record.TheoryName.TheVariants.{Terms, Differences}
@@ -75,3 +81,25 @@ asks (Ok (Predicate p)) = false
 asks (Ok (Goal g)) = false
 asks (Ok (Question name)) = true
 asks (Ok (Abstraction name)) = true
+
+abbrev pub Accepted : Result Said RecordFault → Option Fault → Result (Option Line) Fault → Type 0
+Accepted (Err fault) refused result = Unit {0}
+Accepted (Ok (of_term arity symbol left right)) refused result = Unit {0}
+Accepted (Ok (Predicate s)) refused result = refused ≡ None → result ≡ Ok None
+Accepted (Ok (Goal s)) refused result = refused ≡ None → result ≡ Ok None
+Accepted (Ok (Question name)) refused result = Unit {0}
+Accepted (Ok (Abstraction name)) refused result = Unit {0}
+
+abbrev pub told : Result ℕ TermFault → Result (Option Line) Fault
+told (Ok number) = Ok None
+told (Err fault) = Err (Term fault)
+
+-- before the record `count` of `rows` are terms, after it `count'` of `rows'`
+abbrev pub TableAfter : Result Said RecordFault → List Row → ℕ → List Row → ℕ → Result (Option Line) Fault → Type 0
+TableAfter (Err fault) rows count rows' count' result = (rows' ≡ rows) × (count' ≡ count)
+TableAfter (Ok (of_term arity symbol left right)) rows count rows' count' result =
+    (answer : Result ℕ TermFault) × Adds rows count (record { symbol = symbol; arity = arity; left = left; right = right }) rows' count' answer × (result ≡ told answer)
+TableAfter (Ok (Predicate s)) rows count rows' count' result = (rows' ≡ rows) × (count' ≡ count)
+TableAfter (Ok (Goal s)) rows count rows' count' result = (rows' ≡ rows) × (count' ≡ count)
+TableAfter (Ok (Question name)) rows count rows' count' result = (rows' ≡ rows) × (count' ≡ count)
+TableAfter (Ok (Abstraction name)) rows count rows' count' result = (rows' ≡ rows) × (count' ≡ count)

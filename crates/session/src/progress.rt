@@ -2,7 +2,7 @@ ghost use Rattle.std.specs.Prelude.{◌≡◌, ◌<◌, [], IfSome, IsSome, IfOk
 ghost use Rattle.arrayvec.specs.ArrayVec.{array_vec_len};
 ghost use Rattle.records.specs.Pending.{predicates_of, goals_of};
 ghost use Rattle.records.specs.Records.{record_of};
-ghost use Rattle.session.specs.Taking.{facts_refused, first_refusal, predicates_after, goals_after, asks};
+ghost use Rattle.session.specs.Taking.{facts_refused, first_refusal, predicates_after, goals_after, asks, Accepted, TableAfter};
 
 use crate::answers::{Answer, abstraction, first_ordinal, question};
 use crate::faults::Fault;
@@ -46,6 +46,8 @@ impl Progress {
         bytes: &[u8],
     ) -> Result<Option<Line>, Fault>
         ensures refused { IfSome (first_refusal self.old table.old.lent.count (record_of bytes.now)) (λ fault. result ≡ Err fault) }
+        ensures accepted { Accepted (record_of bytes.now) (first_refusal self.old table.old.lent.count (record_of bytes.now)) result }
+        ensures table { TableAfter (record_of bytes.now) table.old.lent.rows.now table.old.lent.count table.new.lent.rows.now table.new.lent.count result }
         ensures predicates { predicates_of self.new.pending ≡ (if is_ok result then predicates_after (record_of bytes.now) (predicates_of self.old.pending) else predicates_of self.old.pending) }
         ensures goals { goals_of self.new.pending ≡ (if is_ok result then goals_after (record_of bytes.now) (goals_of self.old.pending) else goals_of self.old.pending) }
         ensures answers { OnErr result (self.new.answers.items ≡ self.old.answers.items) }

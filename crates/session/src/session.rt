@@ -1,7 +1,7 @@
 ghost use Rattle.std.specs.Prelude.{◌≡◌, [], IfSome, IfOk, OnErr, is_ok, is_some, if◌then◌else◌};
 ghost use Rattle.records.specs.Pending.{predicates_of, goals_of};
 ghost use Rattle.records.specs.Records.{record_of};
-ghost use Rattle.session.specs.Taking.{first_refusal, predicates_after, goals_after, asks};
+ghost use Rattle.session.specs.Taking.{first_refusal, predicates_after, goals_after, asks, Accepted, TableAfter};
 
 use crate::faults::Fault;
 use crate::progress::Progress;
@@ -94,6 +94,8 @@ impl Session<'_, '_, '_> {
     // abstraction. A refused record leaves what waits.
     pub fn take(&mut self, bytes: &[u8]) -> Result<Option<Line>, Fault>
         ensures refused { IfSome (first_refusal self.old.progress self.old.table.now.lent.count (record_of bytes.now)) (λ fault. result ≡ Err fault) }
+        ensures accepted { Accepted (record_of bytes.now) (first_refusal self.old.progress self.old.table.now.lent.count (record_of bytes.now)) result }
+        ensures table { TableAfter (record_of bytes.now) self.old.table.now.lent.rows.now self.old.table.now.lent.count self.new.table.now.lent.rows.now self.new.table.now.lent.count result }
         ensures predicates { predicates_of self.new.progress.pending ≡ (if is_ok result then predicates_after (record_of bytes.now) (predicates_of self.old.progress.pending) else predicates_of self.old.progress.pending) }
         ensures goals { goals_of self.new.progress.pending ≡ (if is_ok result then goals_after (record_of bytes.now) (goals_of self.old.progress.pending) else goals_of self.old.progress.pending) }
         ensures answers { OnErr result (self.new.progress.answers.items ≡ self.old.progress.answers.items) }
