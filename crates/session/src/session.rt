@@ -1,6 +1,7 @@
 ghost use Rattle.std.specs.Prelude.{◌≡◌, [], IfSome, IfOk, OnErr, is_ok, is_some, if◌then◌else◌};
 ghost use Rattle.records.specs.Pending.{predicates_of, goals_of};
 ghost use Rattle.records.specs.Records.{record_of};
+ghost use Rattle.session.specs.Running.{Ran};
 ghost use Rattle.session.specs.Taking.{first_refusal, predicates_after, goals_after, asks, Accepted, TableAfter};
 
 use crate::faults::Fault;
@@ -79,6 +80,7 @@ impl Session<'_, '_, '_> {
         mut print: F,
     ) -> Result<(), E>
         requires { F.IsAlwaysCallable print }
+        ensures { (last : F) × Ran (λ f line r g. F.step f line r g) self.old print 1 records.now self.new last result }
     {
         for (place, bytes) in (1u64..).zip(records.chunks(8)) {
             match self.take(bytes) {
