@@ -41,6 +41,7 @@ struct Split {
 
 // Makes two slices the index of the rows in use.
 pub(crate) fn link(register: &Register<'_, Row>, heads: &mut [u16], next: &mut [u16])
+    requires rows { register.now.count ≤ length register.now.rows.now }
     requires some { 0 < length heads.old }
     requires room { register.now.count ≤ length next.old }
     ensures indexed { Indexed row_hash register.now.rows.now register.now.count heads.new next.new }
