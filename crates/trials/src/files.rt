@@ -24,8 +24,8 @@ fn term(number: u8) -> Record {
 // A term, and the number of one, behind the last that a table has room for.
 fn full_tables(rt: &impl Print) -> io::Result<()> {
     let mut terms = [Record::default(); 24];
-    for number in 0..24u8 {
-        terms[number as usize] = term(number);
+    for (row, number) in terms.iter_mut().zip(0..24) {
+        *row = term(number);
     }
     let ask = [*b"AU\0\0\0\0\0\0"];
     let present = [term(23)];
