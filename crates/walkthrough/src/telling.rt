@@ -1,5 +1,3 @@
-ghost use Rattle.std.specs.Prelude.{◌≤◌, length};
-
 use crate::choices::Choice;
 use crate::stop::Stop;
 use arrayvec::ArrayVec;
@@ -14,8 +12,8 @@ pub trait Statement<T>: Copy + Display {
     fn fact(self, theory: &T) -> Result<u16, Stop>;
 }
 
-// A teller takes at most so many predicates.
-const MOST_PREDICATES: usize = 8;
+// A teller keeps at most so many predicates: one more than any question takes, so that the book refuses a longer list.
+const MOST_PREDICATES: usize = 17;
 
 // An answer is a set of choices, by its number in the book.
 #[derive(Clone, Copy)]
@@ -39,12 +37,11 @@ impl<'r, 'l, 'b, 't, R: Print, T: Theory> Teller<'r, 'l, 'b, 't, R, T> {
         book: &'l mut Book<'b>,
         theory: &'t T,
         statements: &[S],
-    ) -> Result<Self, Stop>
-        requires { length statements.now ≤ 8 }
-    {
+    ) -> Result<Self, Stop> {
         let mut predicates = ArrayVec::new();
         for statement in statements {
-            predicates.push(statement.fact(theory)?);
+            let fact = statement.fact(theory)?;
+            let _kept = predicates.try_push(fact);
         }
         Ok(Teller {
             rt,
