@@ -42,7 +42,8 @@ fn ask<T: Theory>(
 // A question: its name, its predicates and its goals.
 type Case<'c> = (&'c str, &'c [u16], &'c [u16]);
 
-// Asks each question with room enough.
+// Asks each question with room enough. It is not inlined, so that this room lies on the stack only while it asks.
+#[inline(never)]
 fn ask_all<T: Theory>(rt: &impl Print, theory: &T, cases: &[Case<'_>]) -> io::Result<()> {
     for (name, predicates, goals) in cases {
         let mut rows = [Row::default(); 4096];
