@@ -2,11 +2,10 @@
 use Rattle.std.proofs.Common.{◌≡◌, ℕ, ◌+◌, ◌<◌, ◌≤◌, List, ◌++◌, length, get_or, set, drop, replicate, sym, refl, ap, ◌∙◌, subst, ap₂, ⊎_elim, arith, get_or-set_other, get_or-set_same}
 use Rattle.std.proofs.lemmas.Bool.{cases_eq}
 use Rattle.std.proofs.lemmas.List.{replicate-append-replicate}
-use Rattle.std.specs.Borrow.{MutBor}
-use Rattle.register.specs.declared.Register.{Register}
 use Rattle.diagrams.specs.declared.Row.{Row}
 use Rattle.diagrams.specs.Books.{KeptBook}
 use Rattle.book.specs.Steps.{Holding, Stepped}
+use Rattle.book.specs.declared.manager.Manager.{Manager}
 use Rattle.book.specs.declared.work.Work.{Work}
 use Rattle.book.proofs.Grown.{grown_none, grown_more}
 
@@ -19,10 +18,14 @@ holding_set numbers count slot n lt held h k = ⊎_elim
     (λ ne. rw (get_or-set_other numbers slot k n 0 ne) (h k))
     (cases_eq k slot)
 
-pub stepped_none : (r : MutBor (Register Row)) (w : Work) → KeptBook r.now.rows.now r.now.count → Holding w.standing.now r.now.count → Holding w.gathered.now r.now.count → Stepped r r w w
-stepped_none r w kept standing gathered = record {
+pub stepped_none : (m : Manager) (w : Work) → Holding w.standing.now m.register.now.count → Holding w.gathered.now m.register.now.count → Stepped m m w w
+stepped_none m w standing gathered = record {
   register = refl;
-  enlarged = grown_none r.now kept;
+  heads = refl;
+  next = refl;
+  unions = refl;
+  intersections = refl;
+  enlarged = grown_none m.register.now m.kept;
   standing = refl;
   gathered = refl;
   long = refl;
@@ -30,9 +33,14 @@ stepped_none r w kept standing gathered = record {
   gathered_held = gathered;
 }
 
-pub stepped_more : {r r' r'' : MutBor (Register Row)} {w w' w'' : Work} → Stepped r r' w w' → Stepped r' r'' w' w'' → Stepped r r'' w w''
-stepped_more s t = record {
+-- every step of a saturation keeps what the steps before it have kept, from the state where a loop began
+pub carried_on : {m m' m'' : Manager} {w w' w'' : Work} → Stepped m m' w w' → Stepped m' m'' w' w'' → Stepped m m'' w w''
+carried_on s t = record {
   register = t.register ∙ s.register;
+  heads = t.heads ∙ s.heads;
+  next = t.next ∙ s.next;
+  unions = t.unions ∙ s.unions;
+  intersections = t.intersections ∙ s.intersections;
   enlarged = grown_more s.enlarged t.enlarged;
   standing = t.standing ∙ s.standing;
   gathered = t.gathered ∙ s.gathered;

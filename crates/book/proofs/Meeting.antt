@@ -56,6 +56,19 @@ module _ (r : Register Row) (sound : Sound r.rows.now r.count) (w : Work) (rule 
       subst (λ s. Applies r.rows.now r.count r'.rows.now r'.count s o)
       (fun_ext (λ c. ap₂ ◌&&◌ (ap (λ z. member r.rows.now z c) is_x ∙ (h (Fact a) n.0).reads c) (ap (λ z. member r.rows.now z c) is_y ∙ (h (Fact b) n.1).reads c) ∙ ap (has_asked (facts_of (S c))) (sym e) ∙ premised_asked (facts_of (S c)) rule)) t
 
+  -- the same by the three kinds of rule
+  pub always_meets : (x : Conclusion) → rule ≡ Always x → Meets r w r rule (Ok 1)
+  always_meets x e = subst (λ z. Meets r w r z (Ok 1)) (sym e) (λ facts S names h. plain r.rows.now r.count sound (λ c. true) 1 (omega arith) (member_1 r.rows.now))
+
+  pub from_meets : (a : ℕ) (x : Conclusion) → rule ≡ From a x → Meets r w r rule (Ok (get_or w.standing.now a 0))
+  from_meets a x e = subst (λ z. Meets r w r z (Ok (get_or w.standing.now a 0))) (sym e)
+      (λ facts S names h. let s = h (Fact a) names.0 in plain r.rows.now r.count sound (λ c. S c (Fact a)) (get_or w.standing.now a 0) s.held s.reads)
+
+  pub both_meet : (a b : ℕ) (x : Conclusion) → rule ≡ Both a b x → (r' : Register Row) (o : Result ℕ NoRoom)
+      → Applies r.rows.now r.count r'.rows.now r'.count (union_or_intersection Intersection r.rows.now (get_or w.standing.now a 0) (get_or w.standing.now b 0)) o → Meets r w r' rule o
+  both_meet a b x e r' o t = subst (λ z. Meets r w r' z o) (sym e)
+      (λ facts S names h. subst (λ s. Applies r.rows.now r.count r'.rows.now r'.count s o) (fun_ext (λ c. ap₂ ◌&&◌ ((h (Fact a) names.0).reads c) ((h (Fact b) names.1).reads c))) t)
+
 -- the number of a set that was made is held
 pub made_held : (rows : List Row) (count : ℕ) (rows' : List Row) (count' : ℕ) (s : Choices) (o : Result ℕ NoRoom) → Applies rows count rows' count' s o → IfOk o (λ n. n < count' + 2)
 made_held rows count rows' count' s (Ok n) a = a.held

@@ -1,15 +1,18 @@
 -- The list of predicates and their opposites, place by place.
-use Rattle.std.proofs.Common.{◌≡◌, ℕ, zero, suc, ◌+◌, ◌*◌, ◌<◌, ◌≤◌, ◌⊎◌, List, [], ◌∷◌, ◌++◌, length, get_or, refl, ap, ◌∙◌, inl, inr, ⊎_elim, arith}
+use Rattle.std.proofs.Common.{◌≡◌, ℕ, zero, suc, ◌+◌, ◌*◌, ◌<◌, ◌≤◌, ◌⊎◌, List, [], ◌∷◌, ◌++◌, length, get_or, take, sym, refl, ap, ◌∙◌, inl, inr, ⊎_elim, arith, length-take-le, get_or-take, ext_get_or}
 use Rattle.theory.specs.Theory.{Meaning, Bounded}
 use Rattle.theory.specs.Rounds.{Proper}
 use Rattle.theory.specs.Abstraction.{ask, or_0, with_opposites}
+
+-- the first k pairs stand
+abbrev pub Paired : Meaning → List ℕ → List ℕ → ℕ → Type 0
+Paired m ps xs n = (k : ℕ) → k < n → (get_or xs (2 * k) 0 ≡ get_or ps k 0) × (get_or xs (2 * k + 1) 0 ≡ or_0 (m.opposite (get_or ps k 0)))
 
 pub twice_long : (m : Meaning) (ps : List ℕ) → length (with_opposites m ps) ≡ 2 * length ps
 twice_long m [] = refl
 twice_long m (p ∷ ps) = omega (arith, twice_long m ps)
 
-pub pairs_are : (m : Meaning) (ps : List ℕ) (k : ℕ) → k < length ps
-    → (get_or (with_opposites m ps) (2 * k) 0 ≡ get_or ps k 0) × (get_or (with_opposites m ps) (2 * k + 1) 0 ≡ or_0 (m.opposite (get_or ps k 0)))
+pub pairs_are : (m : Meaning) (ps : List ℕ) → Paired m ps (with_opposites m ps) (length ps)
 pairs_are m [] k lt = absurd (omega arith)
 pairs_are m (p ∷ ps) zero lt = (refl, refl)
 pairs_are m (p ∷ ps) (suc k) lt =
@@ -26,6 +29,17 @@ one_pair_more m (q ∷ ps) p = ap (λ z. q ∷ or_0 (m.opposite q) ∷ z) (one_p
 even_or_odd : (i : ℕ) → ((k : ℕ) × (i ≡ 2 * k)) ⊎ ((k : ℕ) × (i ≡ 2 * k + 1))
 even_or_odd zero = inl (0, refl)
 even_or_odd (suc i) = ⊎_elim (λ e. inr (e.0, omega (arith, e.1))) (λ e. inl (suc e.0, omega (arith, e.1))) (even_or_odd i)
+
+-- all pairs stand: the list is that of predicates and opposites
+pub all_paired : (m : Meaning) (ps xs : List ℕ) → 2 * length ps ≤ length xs → Paired m ps xs (length ps) → take (2 * length ps) xs ≡ with_opposites m ps
+all_paired m ps xs le h =
+    let long : length (take (2 * length ps) xs) ≡ 2 * length ps = length-take-le (2 * length ps) xs le in
+    ext_get_or 0 (take (2 * length ps) xs) (with_opposites m ps) (long ∙ sym (twice_long m ps))
+    (λ i lt. let less : i < 2 * length ps = omega (arith, lt, long) in
+    get_or-take (2 * length ps) xs i 0 less ∙ ⊎_elim
+    (λ e. let k : e.0 < length ps = omega (arith, less, e.1) in ap (λ z. get_or xs z 0) e.1 ∙ (h e.0 k).0 ∙ sym (pairs_are m ps e.0 k).0 ∙ ap (λ z. get_or (with_opposites m ps) z 0) (sym e.1))
+    (λ e. let k : e.0 < length ps = omega (arith, less, e.1) in ap (λ z. get_or xs z 0) e.1 ∙ (h e.0 k).1 ∙ sym (pairs_are m ps e.0 k).1 ∙ ap (λ z. get_or (with_opposites m ps) z 0) (sym e.1))
+    (even_or_odd i))
 
 -- opposites of facts are facts
 pub pairs_are_facts : (m : Meaning) → Bounded m → (ps : List ℕ) → ((k : ℕ) → k < length ps → get_or ps k 0 < m.facts)

@@ -1,7 +1,8 @@
--- What the checks of a question say where none fails.
-use Rattle.std.proofs.Common.{◌≡◌, ℕ, zero, suc, ◌+◌, ◌*◌, ◌<◌, ◌≤◌, Bool, true, false, cond, not, ◌&&◌, ltb, List, [], ◌∷◌, length, get_or, Some, None, Option, sym, refl, ap, subst, arith}
+-- What the checks of a question say where none fails, and what its work slice is then.
+use Rattle.std.proofs.Common.{◌≡◌, ℕ, zero, suc, ◌+◌, ◌*◌, ◌<◌, ◌≤◌, Bool, true, false, cond, not, ◌&&◌, ltb, List, [], ◌∷◌, ◌++◌, length, get_or, drop, replicate, Some, None, Option, sym, refl, ap, ◌∙◌, subst, ⊎_elim, arith, ext_get_or}
+use Rattle.std.proofs.lemmas.List.{places}
 use Rattle.std.specs.List.{list_all}
-use Rattle.std.proofs.lemmas.Bool.{ltb-true, ltb-false, and_parts, not-false}
+use Rattle.std.proofs.lemmas.Bool.{ltb-true, ltb-false, and_parts, not-false, cases_lt}
 use Rattle.theory.specs.declared.Theory.{Ghosts}
 use Rattle.theory.specs.Means.{meaning}
 use Rattle.theory.specs.Theory.{Meaning}
@@ -9,7 +10,8 @@ use Rattle.theory.specs.Rounds.{Proper}
 use Rattle.theory.specs.Abstraction.{ask, with_opposites}
 use Rattle.book.specs.declared.faults.QuestionFault.{QuestionFault}
 use Rattle.book.specs.declared.faults.QuestionFault.TheVariants.{TooManyPredicates, TooManyGoals, NoFact, ShortWork}
-use Rattle.book.specs.Questions.{all_facts, first_fault}
+use Rattle.book.specs.Questions.{all_facts, first_fault, work_after}
+use Rattle.book.specs.Work.{ZeroBelow, SameFrom}
 use Rattle.book.proofs.Pairs.{proper_pairs}
 
 abbrev IsNone : Option QuestionFault → Type 0
@@ -50,6 +52,23 @@ no_fault facts limit predicates goals work h =
       goals_are_facts = read_facts facts goals f.1;
       long = ltb-false work (2 * (facts + 1)) d.0;
     }
+
+low : (n : ℕ) (slice : List ℕ) (k : ℕ) → n ≤ length slice → k < n → get_or (replicate n 0 ++ drop n slice) k 0 ≡ 0
+low n slice k le lt = grind (arith, places)
+
+high : (n : ℕ) (slice : List ℕ) (k : ℕ) → n ≤ length slice → n ≤ k → k < length slice → get_or (replicate n 0 ++ drop n slice) k 0 ≡ get_or slice k 0
+high n slice k le lo lt = grind (arith, places)
+
+whole : (n : ℕ) (slice : List ℕ) → n ≤ length slice → length (replicate n 0 ++ drop n slice) ≡ length slice
+whole n slice le = grind (arith, places)
+
+-- zero in front, the rest as before
+pub work_zeroed : (facts : ℕ) (work work' : List ℕ) → 2 * (facts + 1) ≤ length work → length work' ≡ length work
+    → ZeroBelow work' (2 * (facts + 1)) → SameFrom (2 * (facts + 1)) work work' → work' ≡ work_after facts None work
+work_zeroed facts work work' le long zeroed rest =
+    let n = 2 * (facts + 1) in
+    ext_get_or 0 work' (work_after facts None work) (long ∙ sym (whole n work le))
+    (λ k lt. ⊎_elim (λ below. zeroed k below ∙ sym (low n work k le below)) (λ above. rest k above ∙ sym (high n work k le above (omega (arith, lt, long)))) (cases_lt k n))
 
 -- a question that passes its checks is proper
 pub passed_proper : (m : Meaning) (limit : ℕ) (predicates goals : List ℕ) (work : ℕ) → limit ≤ 16 → first_fault m.facts limit predicates goals work ≡ None → Proper m (ask predicates goals)

@@ -14,7 +14,7 @@ use Rattle.diagrams.specs.Applying.{Extends}
 use Rattle.diagrams.proofs.Kept.{member_kept}
 use Rattle.diagrams.proofs.Applied.{plain}
 use Rattle.book.specs.declared.scratch.Entry.{Entry}
-use Rattle.book.specs.Scratch.{entry, entry_at, Recalls, Writes, table_of, Right, Remembers, Ready}
+use Rattle.book.specs.Scratch.{entry, entry_at, Recalls, Writes, Notes, table_of, Right, Remembers, Ready}
 
 together_turned : (op : Operation) (x y : Bool) → together op x y ≡ together op y x
 together_turned Union true true = refl
@@ -87,6 +87,32 @@ ready_made {rows} {count} {heads} {next} {unions} {intersections} {rows'} {count
   unions_right = remembers_later Union rows rows' count count' r.kept.sound e.stay e.more unions r.unions_right;
   intersections_right = remembers_later Intersection rows rows' count count' r.kept.sound e.stay e.more intersections r.intersections_right;
 }
+
+ready_noted : (op : Operation) (rows : List Row) (count : ℕ) (heads next : List ℕ) (unions intersections unions' intersections' : List Entry) (a b n : ℕ)
+    → Right op rows count (entry a b n) → Notes op a b n unions intersections unions' intersections'
+    → Ready rows count heads next unions intersections → Ready rows count heads next unions' intersections'
+ready_noted Union rows count heads next unions intersections unions' intersections' a b n w (wr, e) r = record {
+  kept = r.kept;
+  indexed = r.indexed;
+  room = r.room;
+  unions_right = remembers_noted Union rows count unions unions' a b n w wr r.unions_right;
+  intersections_right = subst (Remembers Intersection rows count) (sym e) r.intersections_right;
+}
+ready_noted Intersection rows count heads next unions intersections unions' intersections' a b n w (wr, e) r = record {
+  kept = r.kept;
+  indexed = r.indexed;
+  room = r.room;
+  unions_right = subst (Remembers Union rows count) (sym e) r.unions_right;
+  intersections_right = remembers_noted Intersection rows count intersections intersections' a b n w wr r.intersections_right;
+}
+
+-- the number of a set is written down
+pub ready_remembered : (op : Operation) {rows : List Row} {count : ℕ} {rows' : List Row} {count' : ℕ} {heads next : List ℕ} {unions intersections unions' intersections' : List Entry} {a b n : ℕ}
+    → Sound rows count → a < count + 2 → b < count + 2 → Adds rows count rows' count' (union_or_intersection op rows a b) n
+    → Notes op (min a b) (max a b) n unions intersections unions' intersections'
+    → Ready rows' count' heads next unions intersections → Ready rows' count' heads next unions' intersections'
+ready_remembered op {rows} {count} {rows'} {count'} {heads} {next} {unions} {intersections} {unions'} {intersections'} {a} {b} {n} sound ha hb t w r =
+    ready_noted op rows' count' heads next unions intersections unions' intersections' (min a b) (max a b) n (right_entry op rows count rows' count' a b n sound ha hb t) w r
 
 -- the table of the operation, of which all entries are right
 pub table_right : (op : Operation) (rows : List Row) (count : ℕ) (heads next : List ℕ) (unions intersections : List Entry) → Ready rows count heads next unions intersections → Remembers op rows count (table_of op unions intersections)

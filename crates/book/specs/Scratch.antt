@@ -4,6 +4,7 @@
 --   AllEmpty   a table without entries
 --   Recalls    a table has an entry with two numbers and a result
 --   Writes     such an entry takes the place of another, or the table has no place
+--   Notes      an entry is written into the table of its operation
 --   Remembers  each entry's numbers are held, and its result reads as the operation of the two
 --   Ready      a book is kept, and the index and both tables are right for its rows
 use Rattle.std.specs.Prelude.{◌≡◌, ℕ, ◌+◌, ◌<◌, ◌≤◌, ◌⊎◌, List, length, slice_index_or, slice_set}
@@ -29,6 +30,11 @@ Recalls table a b n = (k : ℕ) × (entry_at table k ≡ entry a b n)
 
 abbrev pub Writes : List Entry → ℕ → ℕ → ℕ → List Entry → Type 0
 Writes table a b n table' = (table' ≡ table) ⊎ ((k : ℕ) × (k < length table) × (table' ≡ slice_set table k (entry a b n)))
+
+-- an entry is written for one operation; the other's table is as before
+abbrev pub Notes : Operation → ℕ → ℕ → ℕ → List Entry → List Entry → List Entry → List Entry → Type 0
+Notes Union a b n unions intersections unions' intersections' = Writes unions a b n unions' × (intersections' ≡ intersections)
+Notes Intersection a b n unions intersections unions' intersections' = Writes intersections a b n intersections' × (unions' ≡ unions)
 
 -- the table of an operation
 abbrev pub table_of : Operation → List Entry → List Entry → List Entry

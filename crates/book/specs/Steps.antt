@@ -1,7 +1,8 @@
 -- What the steps of a saturation leave of a book's register and of a work slice.
 --
 --   Holding     the numbers of a list are held by a book
---   Stepped     the register is enlarged, and both halves are the same slices, of which all numbers are held
+--   Stepped     the register is enlarged, its index, its tables and both halves are the same slices, and all numbers of the
+--               halves are held
 --   asked_for   the facts that a rule asks for: none, or two, of which the second may be the first again
 --   DoNotFit    the rows of a set do not fit beside those in use
 --   Gathers     a slot has the union of what it had with a number's set, or the rows do not fit
@@ -15,7 +16,6 @@
 --   RoundsEnd   the rounds are made up to the first that changes no set, or the working sets' rows do not fit
 --   Saturates   a question's answer stands, or the working sets' rows do not fit
 use Rattle.std.specs.Prelude.{◌≡◌, ℕ, suc, ◌+◌, ◌<◌, Bool, ◌⊎◌, List, length, Some, None, Option, Result, MatchResult, slice_index, slice_set}
-use Rattle.std.specs.Borrow.{MutBor}
 use Rattle.theory.specs.declared.Rule.{Rule}
 use Rattle.theory.specs.declared.Rule.TheVariants.{Always, From, Both}
 use Rattle.theory.specs.Theory.{Meaning, Names, premised}
@@ -32,19 +32,24 @@ use Rattle.diagrams.specs.Applying.{Applies}
 use Rattle.saturation.specs.Working.{Working}
 use Rattle.saturation.specs.Stages.{Family, Half, opposed, StartSet, RoundSet, TooMany, InRound, BothHalves, Started, Turned, QuietAt, Saturated}
 use Rattle.book.specs.Growing.{Enlarged}
+use Rattle.book.specs.declared.manager.Manager.{Manager}
 use Rattle.book.specs.declared.work.Work.{Work}
 
 abbrev pub Holding : List ℕ → ℕ → Type 0
 Holding numbers count = (k : ℕ) → slice_index numbers k < count + 2
 
-pub record Stepped (r r' : MutBor (Register Row)) (w w' : Work) : Type 0 where
-  pub register : r'.ghost_name ≡ r.ghost_name
-  pub enlarged : Enlarged r.now r'.now
+pub record Stepped (m m' : Manager) (w w' : Work) : Type 0 where
+  pub register : m'.register.ghost_name ≡ m.register.ghost_name
+  pub heads : m'.heads.ghost_name ≡ m.heads.ghost_name
+  pub next : m'.next.ghost_name ≡ m.next.ghost_name
+  pub unions : m'.unions.ghost_name ≡ m.unions.ghost_name
+  pub intersections : m'.intersections.ghost_name ≡ m.intersections.ghost_name
+  pub enlarged : Enlarged m.register.now m'.register.now
   pub standing : w'.standing.ghost_name ≡ w.standing.ghost_name
   pub gathered : w'.gathered.ghost_name ≡ w.gathered.ghost_name
   pub long : length w'.standing.now ≡ length w.standing.now
-  pub standing_held : Holding w'.standing.now r'.now.count
-  pub gathered_held : Holding w'.gathered.now r'.now.count
+  pub standing_held : Holding w'.standing.now m'.register.now.count
+  pub gathered_held : Holding w'.gathered.now m'.register.now.count
 
 abbrev pub asked_for : Rule → Option (record { 0 : ℕ; 1 : ℕ })
 asked_for (Always x) = None

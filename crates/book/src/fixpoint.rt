@@ -63,7 +63,7 @@ impl Work<'_> {
         requires gathered { Holding self.old.gathered.now manager.old.register.now.count }
         requires few { length predicates.now ≤ 16 }
         requires facts { (k : ℕ) → k < length predicates.now → slice_index predicates.now k < length self.old.standing.now }
-        ensures stepped { Stepped manager.old.register manager.new.register self.old self.new }
+        ensures stepped { Stepped manager.old manager.new self.old self.new }
         ensures starts { Starts predicates.now manager.old.register.now self.old manager.new.register.now self.new result }
     {
         for (position, fact) in predicates.iter().enumerate() {
@@ -98,7 +98,7 @@ impl Work<'_> {
         requires standing { Holding self.old.standing.now manager.old.register.now.count }
         requires gathered { Holding self.old.gathered.now manager.old.register.now.count }
         requires long { length self.old.standing.now ≡ T.Theory.facts theory.now + 1 }
-        ensures stepped { Stepped manager.old.register manager.new.register self.old self.new }
+        ensures stepped { Stepped manager.old manager.new self.old self.new }
         ensures rounded { Rounded (meaning T.Theory theory.now) manager.old.register.now self.old manager.new.register.now self.new result }
     {
         for place in 0..theory.places() {
@@ -119,7 +119,7 @@ impl Work<'_> {
         requires standing { Holding self.old.standing.now manager.old.register.now.count }
         requires gathered { Holding self.old.gathered.now manager.old.register.now.count }
         requires long { length self.old.standing.now ≡ T.Theory.facts theory.now + 1 }
-        ensures stepped { Stepped manager.old.register manager.new.register self.old self.new }
+        ensures stepped { Stepped manager.old manager.new self.old self.new }
         ensures turns { Turns (meaning T.Theory theory.now) manager.old.register.now self.old manager.new.register.now self.new result }
     {
         self.round(manager, theory)?;
@@ -135,7 +135,7 @@ impl Work<'_> {
         requires standing { Holding self.old.standing.now manager.old.register.now.count }
         requires gathered { Holding self.old.gathered.now manager.old.register.now.count }
         requires long { length self.old.standing.now ≡ T.Theory.facts theory.now + 1 }
-        ensures stepped { Stepped manager.old.register manager.new.register self.old self.new }
+        ensures stepped { Stepped manager.old manager.new self.old self.new }
         ensures ends { RoundsEnd (meaning T.Theory theory.now) manager.old.register.now self.old manager.new.register.now result }
     {
         let facts = theory.facts();
@@ -157,7 +157,7 @@ impl Work<'_> {
         requires standing { (k : ℕ) → slice_index self.old.standing.now k ≡ 0 }
         requires gathered { (k : ℕ) → slice_index self.old.gathered.now k ≡ 0 }
         requires long { length self.old.standing.now ≡ T.Theory.facts inquiry.now.theory.now + 1 }
-        ensures stepped { Stepped manager.old.register manager.new.register self.old self.new }
+        ensures stepped { Stepped manager.old manager.new self.old self.new }
         ensures saturates { Saturates (meaning T.Theory inquiry.now.theory.now) (ask inquiry.now.predicates.now inquiry.now.goals.now) manager.old.register.now manager.new.register.now result }
     {
         self.start_predicates(manager, inquiry.predicates)?;

@@ -24,6 +24,8 @@ fn gather(
     requires slot { slot < length numbers.old }
     requires number { number < manager.old.register.now.count + 2 }
     ensures held { manager.new.register.ghost_name ≡ manager.old.register.ghost_name }
+    ensures index { (manager.new.heads.ghost_name ≡ manager.old.heads.ghost_name) × (manager.new.next.ghost_name ≡ manager.old.next.ghost_name) }
+    ensures tables { (manager.new.unions.ghost_name ≡ manager.old.unions.ghost_name) × (manager.new.intersections.ghost_name ≡ manager.old.intersections.ghost_name) }
     ensures enlarged { Enlarged manager.old.register.now manager.new.register.now }
     ensures numbers { Holding numbers.new manager.new.register.now.count }
     ensures gathers { Gathers manager.old.register.now numbers.old manager.new.register.now numbers.new slot number result }
@@ -65,7 +67,7 @@ impl Work<'_> {
         requires gathered { Holding self.old.gathered.now manager.old.register.now.count }
         requires position { position < 16 }
         requires fact { fact < length self.old.standing.now }
-        ensures stepped { Stepped manager.old.register manager.new.register self.old self.new }
+        ensures stepped { Stepped manager.old manager.new self.old self.new }
         ensures positioned { Positioned position fact manager.old.register.now self.old manager.new.register.now self.new result }
     {
         let chosen = manager.make(position, 0, 1)?;
@@ -77,6 +79,8 @@ impl Work<'_> {
         requires standing { Holding self.now.standing.now manager.old.register.now.count }
         requires names { Names (length self.now.standing.now) rule }
         ensures held { manager.new.register.ghost_name ≡ manager.old.register.ghost_name }
+        ensures index { (manager.new.heads.ghost_name ≡ manager.old.heads.ghost_name) × (manager.new.next.ghost_name ≡ manager.old.next.ghost_name) }
+        ensures tables { (manager.new.unions.ghost_name ≡ manager.old.unions.ghost_name) × (manager.new.intersections.ghost_name ≡ manager.old.intersections.ghost_name) }
         ensures enlarged { Enlarged manager.old.register.now manager.new.register.now }
         ensures number { IfOk result (λ n. n < manager.new.register.now.count + 2) }
         ensures meets { Meets manager.old.register.now self.now manager.new.register.now rule result }
@@ -108,7 +112,7 @@ impl Work<'_> {
         requires standing { Holding self.old.standing.now manager.old.register.now.count }
         requires gathered { Holding self.old.gathered.now manager.old.register.now.count }
         requires names { Names (length self.old.standing.now - 1) rule }
-        ensures stepped { Stepped manager.old.register manager.new.register self.old self.new }
+        ensures stepped { Stepped manager.old manager.new self.old self.new }
         ensures derived { Derived rule manager.old.register.now self.old manager.new.register.now self.new result }
     {
         let together = self.premises(manager, rule)?;

@@ -16,3 +16,4 @@ mod work;
 pub use book::Book;
 pub use faults::{BookFault, QuestionFault};
 pub use inquiry::Inquiry;
+pub use theory::Refusal;

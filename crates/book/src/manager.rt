@@ -5,7 +5,7 @@ ghost use Rattle.diagrams.specs.Books.{KeptBook, capacity, union_or_intersection
 ghost use Rattle.diagrams.specs.Making.{child};
 ghost use Rattle.diagrams.specs.Applying.{Fit, Makes, Applies, Step};
 ghost use Rattle.diagrams.specs.declared.Operation.TheVariants.{Union, Intersection};
-ghost use Rattle.book.specs.Scratch.{entry, table_of, Recalls, Right, Remembers};
+ghost use Rattle.book.specs.Scratch.{entry, table_of, Notes, Recalls, Right, Remembers};
 ghost use Rattle.book.specs.Growing.{Enlarged};
 
 use crate::scratch::{Entry, look_up, write_down};
@@ -41,6 +41,7 @@ struct Split {
 
 // Makes two slices the index of the rows in use.
 pub(crate) fn link(register: &Register<'_, Row>, heads: &mut [u16], next: &mut [u16])
+    requires rows { register.now.count ≤ length register.now.rows.now }
     requires some { 0 < length heads.old }
     requires room { register.now.count ≤ length next.old }
     ensures indexed { Indexed row_hash register.now.rows.now register.now.count heads.new next.new }
@@ -103,6 +104,8 @@ impl Manager<'_, '_, '_> {
     pub(crate) fn make(&mut self, position: u8, without: u16, with: u16) -> Result<u16, NoRoom>
         requires fit { Fit self.old.register.now.rows.now self.old.register.now.count position without with }
         ensures held { self.new.register.ghost_name ≡ self.old.register.ghost_name }
+        ensures names { (self.new.heads.ghost_name ≡ self.old.heads.ghost_name) × (self.new.next.ghost_name ≡ self.old.next.ghost_name) }
+        ensures tables { (self.new.unions ≡ self.old.unions) × (self.new.intersections ≡ self.old.intersections) }
         ensures enlarged { Enlarged self.old.register.now self.new.register.now }
         ensures made { Makes self.old.register.now.rows.now self.old.register.now.count self.new.register.now.rows.now self.new.register.now.count position without with result }
     {
@@ -131,6 +134,9 @@ impl Manager<'_, '_, '_> {
     fn remember(&mut self, op: Operation, a: u16, b: u16, result_number: u16)
         requires { Right op self.old.register.now.rows.now self.old.register.now.count (entry (min a b) (max a b) result_number) }
         ensures same { self.new.register ≡ self.old.register }
+        ensures index { (self.new.heads ≡ self.old.heads) × (self.new.next ≡ self.old.next) }
+        ensures names { (self.new.unions.ghost_name ≡ self.old.unions.ghost_name) × (self.new.intersections.ghost_name ≡ self.old.intersections.ghost_name) }
+        ensures written { Notes op (min a b) (max a b) result_number self.old.unions.now self.old.intersections.now self.new.unions.now self.new.intersections.now }
     {
         match op {
             Operation::Union => write_down(self.unions, a.min(b), a.max(b), result_number),
@@ -149,6 +155,8 @@ impl Manager<'_, '_, '_> {
         requires left { a < self.old.register.now.count + 2 }
         requires right { b < self.old.register.now.count + 2 }
         ensures held { self.new.register.ghost_name ≡ self.old.register.ghost_name }
+        ensures index { (self.new.heads.ghost_name ≡ self.old.heads.ghost_name) × (self.new.next.ghost_name ≡ self.old.next.ghost_name) }
+        ensures tables { (self.new.unions.ghost_name ≡ self.old.unions.ghost_name) × (self.new.intersections.ghost_name ≡ self.old.intersections.ghost_name) }
         ensures enlarged { Enlarged self.old.register.now self.new.register.now }
         ensures applied { Applies self.old.register.now.rows.now self.old.register.now.count self.new.register.now.rows.now self.new.register.now.count (union_or_intersection op self.old.register.now.rows.now a b) result }
     {

@@ -1,11 +1,17 @@
 -- One row of a walk: the choice belongs to a row as it belongs to with or without.
 use Rattle.std.proofs.Common.{◌≡◌, ℕ, zero, suc, ◌+◌, ◌-◌, ◌/◌, ◌%◌, ◌^◌, ◌<◌, ◌≤◌, eqb, List, sym, refl, ap, ◌∙◌, ⊎_elim, arith}
+use mathlib.Core.Logic.{∥∥₁_elim}
 use Rattle.std.proofs.lemmas.Bool.{cond-true, cond-false, eq-eqb, ne_eqb, cases_eq}
 use Rattle.diagrams.specs.declared.Row.{Row}
 use Rattle.theory.specs.Rounds.{bit}
 use Rattle.diagrams.specs.Diagram.{Sound, row_at, member, position_of}
+use Rattle.diagrams.specs.Books.{KeptBook}
 use Rattle.diagrams.proofs.Making.{member_row}
 use Rattle.diagrams.proofs.Shortening.{position_row}
+use Rattle.diagrams.proofs.SoundProp.{sound_prop}
+
+pub kept_sound : {rows : List Row} {count : ℕ} → ∥ KeptBook rows count ∥₁ → Sound rows count
+kept_sound {rows} {count} t = ∥∥₁_elim t (sound_prop rows count) (λ k. k.sound)
 
 module _ (rows : List Row) (count : ℕ) (sound : Sound rows count) where
   pub into_with : (n c : ℕ) → 2 ≤ n → n < count + 2 → c / 2 ^ (row_at rows (n - 2)).position % 2 ≡ 1 → ((row_at rows (n - 2)).with < count + 2) × (member rows (row_at rows (n - 2)).with c ≡ member rows n c)

@@ -1,5 +1,7 @@
 -- What is left where a set was made, and where its rows did not fit.
 use Rattle.std.proofs.Common.{◌≡◌, ℕ, ◌<◌, ◌≤◌, List, ◌∙◌, ⊎_elim, arith}
+use mathlib.Core.Logic.{∥∥₁_elim}
+use native.Mathlib.Nat.{ℕ_set}
 use Rattle.std.proofs.lemmas.Bool.{cases_lt}
 use Rattle.register.specs.Rows.{Cleared}
 use Rattle.diagrams.specs.declared.Row.{Row}
@@ -10,6 +12,24 @@ use Rattle.diagrams.specs.Applying.{Extends}
 use Rattle.diagrams.proofs.Counted.{counts_iff}
 use Rattle.diagrams.proofs.Kept.{sound_kept}
 use Rattle.diagrams.proofs.InUse.{counts_in_use}
+use Rattle.diagrams.proofs.SoundProp.{sound_prop}
+
+row_set : (x y : Row) (p q : x ≡ y) → p ≡ q
+row_set x y p q = λ i j. record {
+  position = ℕ_set x.position y.position (λ k. (p k).position) (λ k. (q k).position) i j;
+  without = ℕ_set x.without y.without (λ k. (p k).without) (λ k. (q k).without) i j;
+  with = ℕ_set x.with y.with (λ k. (p k).with) (λ k. (q k).with) i j;
+}
+
+kept_prop : (rows : List Row) (count : ℕ) → IsProp (KeptBook rows count)
+kept_prop rows count x y = λ i. record {
+  sound = sound_prop rows count x.sound y.sound i;
+  zero_behind = λ r lo hi. row_set (row_at rows r) blank (x.zero_behind r lo hi) (y.zero_behind r lo hi) i;
+}
+
+-- what the book's ghost field holds truncated, whole
+pub kept_out : (rows : List Row) (count : ℕ) → ∥ KeptBook rows count ∥₁ → KeptBook rows count
+kept_out rows count t = ∥∥₁_elim t (kept_prop rows count) (λ k. k)
 
 module _ (rows : List Row) (count : ℕ) (rows' : List Row) (count' : ℕ) (ext : Extends rows count rows' count') where
   pub keeps_made : Keeps (book_of rows count) (book_of rows' count')

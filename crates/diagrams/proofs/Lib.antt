@@ -2,6 +2,7 @@ pub mod Counted
 pub mod Canonical
 pub mod Mixing
 pub mod Kept
+pub mod SoundProp
 pub mod InUse
 pub mod Appended
 pub mod Making

@@ -10,6 +10,7 @@ ghost use Rattle.differences.specs.Facts.{fact_of, strictness, fact_made};
 mod parts;
 
 use parts::{CONSTANTS, Parts, added};
+pub use theory::Refusal;
 use theory::{Conclusion, FactFault, Rule, Theory, TheoryFault};
 
 // How many variables there may be.

@@ -6,7 +6,8 @@
 --   answer_text   of an answer: its ordinal, how many choices belong, the first ordinal with an equal answer
 --   refusal_text  of a refusal: its number, and the record
 --   line_of       the line that holds a text: 48 bytes, zero behind the text, and the text's length
-use Rattle.std.specs.Prelude.{ℕ, ◌-◌, List, [], ◌∷◌, ◌++◌, length, replicate, codes, decimal}
+--   put_into      a line with one byte written behind its text
+use Rattle.std.specs.Prelude.{ℕ, ◌+◌, ◌-◌, List, [], ◌∷◌, ◌++◌, length, replicate, codes, decimal, slice_set}
 use Rattle.records.specs.declared.line.Line.{Line}
 
 abbrev pub space : List ℕ
@@ -23,3 +24,6 @@ refusal_text number place = codes "refused" ++ space ++ decimal number ++ space 
 
 abbrev pub line_of : List ℕ → Line
 line_of text = record { bytes = text ++ replicate (48 - length text) 0; len = length text }
+
+abbrev pub put_into : Line → ℕ → Line
+put_into l b = record { bytes = slice_set l.bytes l.len b; len = l.len + 1 }

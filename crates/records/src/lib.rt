@@ -9,3 +9,4 @@ pub use faults::RecordFault;
 pub use line::{Line, answer_line, refusal_line};
 pub use pending::Pending;
 pub use record::{Record, Relation, Statement, TheoryName, read};
+pub use theory::Refusal;

@@ -1,4 +1,5 @@
 ghost use Rattle.std.specs.Prelude.{◌≡◌, ◌≤◌, [], length};
+ghost use Rattle.std.specs.List.{slice_get};
 ghost use Rattle.records.specs.declared.faults.RecordFault.TheVariants.{TooManyPredicates, TooManyGoals};
 ghost use Rattle.records.specs.Pending.{predicates_of, goals_of, with_one, if_room};
 
@@ -75,5 +76,33 @@ impl Pending {
         ensures few { length result.now ≤ 8 }
     {
         self.goals.as_slice()
+    }
+
+    // How many predicates wait.
+    pub fn predicate_count(&self) -> usize
+        ensures { result ≡ length (predicates_of self.now) }
+    {
+        self.predicates.len()
+    }
+
+    // How many goals wait.
+    pub fn goal_count(&self) -> usize
+        ensures { result ≡ length (goals_of self.now) }
+    {
+        self.goals.len()
+    }
+
+    // The k-th predicate that waits, counted from 0.
+    pub fn predicate(&self, k: usize) -> Option<Statement>
+        ensures { result ≡ slice_get (predicates_of self.now) k }
+    {
+        self.predicates().get(k).copied()
+    }
+
+    // The k-th goal that waits, counted from 0.
+    pub fn goal(&self, k: usize) -> Option<Statement>
+        ensures { result ≡ slice_get (goals_of self.now) k }
+    {
+        self.goals().get(k).copied()
     }
 }

@@ -1,5 +1,5 @@
 ghost use Rattle.std.specs.Prelude.{◌≡◌};
-ghost use Rattle.records.specs.Records.{zeros as zeros_of, if_zeros as with_zeros, relation_of, term_of, statement_of, theory_of, eight_of, record_of};
+ghost use Rattle.records.specs.Records.{zeros as zeros_of, if_zeros as with_zeros, signed, relation_of, term_of, statement_of, theory_of, eight_of, record_of};
 
 use crate::faults::RecordFault;
 
@@ -99,10 +99,17 @@ impl TryFrom<[u8; RECORD]> for Statement {
             relation: letter.try_into()?,
             left,
             right,
-            constant: constant.cast_signed(),
+            constant: read_signed(constant),
         };
         if_zeros(&bytes[5..], statement)
     }
+}
+
+// A byte in two's complement.
+fn read_signed(byte: u8) -> i8
+    ensures { result ≡ signed byte }
+{
+    byte.cast_signed()
 }
 
 // The relation that a letter names.

@@ -1,4 +1,3 @@
 pub mod Walking
 pub mod Linking
-pub mod Clearing
 pub mod Putting

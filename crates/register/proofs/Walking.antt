@@ -1,7 +1,6 @@
 -- A walk down a chain has passed every row of its bucket at or behind the link.
-use Rattle.std.proofs.Common.{◌≡◌, ℕ, ◌+◌, ◌<◌, ◌≤◌, min, Bool, false, List, length, get_or, sym, ap, ◌∙◌, subst, ⊎_elim, arith}
-use Rattle.std.specs.Cmp.{IsEquivalence}
-use Rattle.std.proofs.lemmas.Bool.{cases_order, false≢true}
+use Rattle.std.proofs.Common.{◌≡◌, ℕ, ◌+◌, ◌<◌, ◌≤◌, min, List, length, get_or, sym, ap, ◌∙◌, subst, ⊎_elim, arith}
+use Rattle.std.proofs.lemmas.Bool.{cases_order}
 use Rattle.register.specs.Chains.{bucket, Indexed}
 
 -- the rows from a link on are other rows than the one looked for, and the link leads into its bucket
@@ -41,7 +40,3 @@ next_passed hash rows count heads next row link at link' e other f p x =
           (λ more. p.absent r (omega (arith, more, e)) lt q))
           (cases_order r at);
     }
-
--- rows that `==` calls unequal are not the same
-pub unequal_differ : {R : Type 0} (eq : R → R → Bool) → IsEquivalence eq → (x y : R) → false ≡ eq x y → x ≡ y → ⊥
-unequal_differ eq e x y unequal same = false≢true (unequal ∙ ap (λ z. eq z y) same ∙ e.refl y)

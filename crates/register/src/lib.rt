@@ -1,21 +1,20 @@
 #![tactic(auto)]
 
-ghost use Rattle.std.specs.Prelude.{◌≡◌, ℕ, ◌+◌, ◌<◌, ◌≤◌, ◌↔◌, min, IsTrue, length, slice_index, slice_set};
+ghost use Rattle.std.specs.Prelude.{◌≡◌, ℕ, ◌+◌, ◌<◌, ◌≤◌, ◌↔◌, min, T, IsTrue, length, replicate, slice_index, slice_set};
 ghost use Rattle.register.specs.Rows.{Finds, Puts, Cleared};
 ghost use Rattle.register.specs.Chains.{bucket as bucketOf, Indexed, Put};
 
-// A kind of row: rows can be compared, and each has a hash for the index.
-pub trait Row: Copy + Eq {
+// A kind of row: it tells whether it is the same as another, and gives a hash for the index. It asks for no `==`, since a row
+// may have one that leaves some of its fields out.
+pub trait Row: Copy {
     ghost hash: { Self → ℕ };
+
+    fn matches(self, other: Self) -> bool
+        ensures yes { T result → self ≡ other }
+        ensures not { self ≡ other → T result };
 
     fn hash(self) -> u32
         ensures { result ≡ hash self };
-
-    // rows that `==` calls equal are the same
-    ghost same: { (x y : Self) → IsTrue (Self.eq x y) → x ≡ y };
-
-    // a clone never fails, and is the row itself
-    ghost clones: { (x : Self) → Self.is_infallible x × ((y : Self) → Self.is_clone x y → y ≡ x) };
 }
 
 // The chained index of a register's rows, in memory of the caller. Lent memory of fixed size holds the chains, so a link is a
@@ -26,12 +25,12 @@ pub struct Index<'a> {
     pub next: &'a mut [u16],
 }
 
-// Rows in lent memory, the first `count` of them in use: the rows are the caller's, so the count stands beside them.
+// Rows in lent memory, the first `count` of them in use: the rows are the caller's, so the count stands beside them. Both are
+// the caller's to set, and each call tests that the rows in use are there.
 #[derive(Drop)]
 pub struct Register<'a, R> {
     pub rows: &'a mut [R],
     pub count: u16,
-    ghost within: { count ≤ length rows.now },
 }
 
 // The bucket of a hash. A mask, since a division would cost more than the rest of a search.
@@ -98,14 +97,24 @@ fn link_all<R: Row>(rows: &[R], index: &mut Index<'_>)
     }
 }
 
+// Writes a blank row into each place.
+fn blank_all<R: Copy>(rows: &mut [R], blank: R)
+    ensures { rows.new ≡ replicate (length rows.old) blank }
+{
+    for row in rows.iter_mut() {
+        *row = blank;
+    }
+}
+
 // Writes a blank row into each place between two.
 fn clear<R: Row>(rows: &mut [R], from: u16, to: u16, blank: R)
     requires order { from ≤ to }
-    requires within { from ≤ length rows.old }
     ensures { Cleared rows.old from to blank rows.new }
 {
     let end = rows.len().min(to as usize);
-    rows[from as usize..end].fill(blank);
+    if (from as usize) < end {
+        blank_all(&mut rows[from as usize..end], blank);
+    }
 }
 
 impl<'a, R: Row> Register<'a, R> {
@@ -143,7 +152,8 @@ impl<'a, R: Row> Register<'a, R> {
     // The place of the row in use that is the same as the one given. It follows the chain of the row's bucket, so through
     // an index of these rows the end of the chain tells that the row is absent.
     fn find(&self, index: &Index<'_>, row: R) -> Option<u16>
-        requires { self.now.count ≤ length index.now.next.now }
+        requires rows { self.now.count ≤ length self.now.rows.now }
+        requires next { self.now.count ≤ length index.now.next.now }
         ensures { Indexed R.Row.hash self.now.rows.now self.now.count index.now.heads.now index.now.next.now → Finds self.now.rows.now self.now.count row result }
     {
         let b = bucket(index.heads.len(), row.hash());
@@ -153,8 +163,7 @@ impl<'a, R: Row> Register<'a, R> {
         let mut link = downwards(index.heads[b], self.count);
         while link > 0 {
             let at = link - 1;
-            let earlier = self.rows[at as usize];
-            if earlier == row {
+            if self.rows[at as usize].matches(row) {
                 return Some(at);
             }
             link = downwards(index.next[at as usize], at);
@@ -165,10 +174,10 @@ impl<'a, R: Row> Register<'a, R> {
     // Makes the index one of the rows in use, whatever it was before.
     pub fn link_rows(&self, index: &mut Index<'_>)
         ensures names { (index.new.heads.ghost_name ≡ index.old.heads.ghost_name) × (index.new.next.ghost_name ≡ index.old.next.ghost_name) }
-        ensures indexed { self.now.count ≤ length index.old.next.now → 0 < length index.old.heads.now → Indexed R.Row.hash self.now.rows.now self.now.count index.new.heads.now index.new.next.now }
+        ensures indexed { self.now.count ≤ length self.now.rows.now → self.now.count ≤ length index.old.next.now → 0 < length index.old.heads.now → Indexed R.Row.hash self.now.rows.now self.now.count index.new.heads.now index.new.next.now }
         ensures long { (length index.new.heads.now ≡ length index.old.heads.now) × (length index.new.next.now ≡ length index.old.next.now) }
     {
-        if !index.covers(self.count) {
+        if self.count as usize > self.rows.len() || !index.covers(self.count) {
             return;
         }
         index.reset();
@@ -183,7 +192,7 @@ impl<'a, R: Row> Register<'a, R> {
         ensures put { Indexed R.Row.hash self.old.rows.now self.old.count index.old.heads.now index.old.next.now → Put R.Row.hash most self.old.rows.now self.old.count index.old.heads.now index.old.next.now row self.new.rows.now self.new.count index.new.heads.now index.new.next.now result }
     {
         let at = self.count;
-        if !index.covers(at) {
+        if at as usize > self.rows.len() || !index.covers(at) {
             return None;
         }
         if let Some(earlier) = self.find(index, row) {

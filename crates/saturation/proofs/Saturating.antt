@@ -99,6 +99,17 @@ question_grows m q b b' keeps p = record {
   sound = p.sound;
 }
 
+-- one set made: what a join leaves
+pub join_grows : (s : Choices) (n : ℕ) (b b' : Book) → Keeps b b' → Adds b.rows b.count b'.rows b'.count s n → Grows b b' (RowOf s)
+join_grows s n b b' keeps a = record {
+  keeps = keeps;
+  fits = omega (arith, a.sound.within, a.long);
+  more = a.more;
+  counted = counts_iff (InUse b'.rows b'.count) (Wanted b (RowOf s)) b'.count a.exact (counts_in_use b'.rows b'.count a.sound);
+  exact = a.exact;
+  sound = a.sound;
+}
+
 -- too many rows of some sets are too many of more sets
 pub too_many_more : (rows : List Row) (count : ℕ) (D E : Choices → Type 0) → ((s : Choices) → D s → E s) → TooMany rows count D → TooMany rows count E
 too_many_more rows count D E into t = (t.0, t.1, λ x mem. ⊎_elim inl (λ d. inr (d.0, into d.0 d.1, d.2)) (t.2 x mem), t.3)

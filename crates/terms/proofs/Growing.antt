@@ -1,12 +1,13 @@
 -- Adding a term to a table leaves a table.
-use Rattle.std.proofs.Common.{◌≡◌, ℕ, ◌+◌, ◌<◌, ◌≤◌, ◌≢◌, List, length, take, set, Some, None, Option, sym, ◌∙◌, subst, inl, inr, ⊎_elim, arith}
+use Rattle.std.proofs.Common.{◌≡◌, ℕ, ◌+◌, ◌<◌, ◌≤◌, ◌≢◌, List, length, take, set, Some, None, Ok, Err, Option, Result, sym, refl, ◌∙◌, subst, inl, inr, ⊎_elim, arith}
 use Rattle.std.proofs.lemmas.Bool.{cases_eq}
 use Rattle.std.proofs.lemmas.Bool.Decides.{nat_tests}
 use Rattle.std.proofs.lemmas.List.{get_or_default, get_or-take, get_or-set_same, get_or-set_other, length-set, length-take-le}
 use Rattle.equality.specs.declared.Term.{Term}
 use Rattle.equality.specs.Equality.{Table, term_at, no_term}
 use Rattle.register.specs.Rows.{Absent, Puts}
-use Rattle.terms.specs.Adding.{refusal}
+use Rattle.terms.specs.declared.faults.TermFault.{TermFault}
+use Rattle.terms.specs.Adding.{refusal, room, Added, Adds}
 
 -- the table with a term behind the others
 
@@ -70,21 +71,33 @@ module _ (rows : List Term) (n : ℕ) (t : Term) (within : n < length rows) wher
     apart = apart_after tab absent;
   }
 
+module _ (rows : List Term) (n : ℕ) (t : Term) (rows' : List Term) (n' : ℕ) (few : n ≤ 24) (tab : Table (take n rows)) where
+  -- what the register does with a term that may stand in the table leaves a table
+  pub puts_kept : (room : ℕ) (r : Option ℕ) → Puts room rows n t rows' n' r → room ≤ 24 → room ≤ length rows
+      → refusal n t ≡ None → (n ≤ length rows → n' ≤ length rows') × (n' ≤ 24) × Table (take n' rows')
+  puts_kept room None p small within fits = rw (p.2, p.3) (λ h. h, few, tab)
+  puts_kept room (Some i) (inl p) small within fits = rw (p.2, p.3) (λ h. h, few, tab)
+  puts_kept room (Some i) (inr (e, lt, absent, f, g)) small within fits =
+      rw (f, g) (λ h. omega (arith, length-set rows n t), omega arith, table_more rows n t (omega arith) (omega arith) fits absent tab)
+
 -- what the table's ghost fields say
 
 pub record Kept (rows : List Term) (n : ℕ) : Type 0 where
+  pub within : n ≤ length rows
   pub few : n ≤ 24
   pub table : Table (take n rows)
 
-module _ (rows : List Term) (n : ℕ) (t : Term) (rows' : List Term) (n' : ℕ) (few : n ≤ 24) (tab : Table (take n rows)) where
-  unchanged : rows' ≡ rows → n' ≡ n → Kept rows' n'
-  unchanged e f = rw (e, f) record { few = few; table = tab }
+module _ (rows : List Term) (n : ℕ) (t : Term) (rows' : List Term) (n' : ℕ) (kept : Kept rows n) where
+  put_kept : (r : Option ℕ) → Puts (room rows) rows n t rows' n' r → refusal n t ≡ None → Kept rows' n'
+  put_kept r p fits =
+      let k = puts_kept rows n t rows' n' kept.few kept.table (room rows) r p (omega arith) (omega arith) fits in
+      record { within = k.0 kept.within; few = k.1; table = k.2 }
 
-  pub puts_kept : (room : ℕ) (r : Option ℕ) → Puts room rows n t rows' n' r → room ≤ 24 → room ≤ length rows → refusal n t ≡ None → Kept rows' n'
-  puts_kept room None p small within fits = unchanged p.2 p.3
-  puts_kept room (Some i) (inl p) small within fits = unchanged p.2 p.3
-  puts_kept room (Some i) (inr (e, lt, absent, f, g)) small within fits =
-      rw (f, g) record {
-        few = omega arith;
-        table = table_more rows n t (omega arith) (omega arith) fits absent tab;
-      }
+  added_kept : (o : Option TermFault) → refusal n t ≡ o → (r : Result ℕ TermFault) → Added o rows n t rows' n' r → Kept rows' n'
+  added_kept (Some fault) q r a = rw (a.1, a.2) kept
+  added_kept None q (Err fault) a = put_kept None (a.1, a.2, a.3, a.4) q
+  added_kept None q (Ok i) a = put_kept (Some i) a q
+
+  -- whatever adding a term does, refusals too, leaves a table
+  pub adds_kept : (r : Result ℕ TermFault) → Adds rows n t rows' n' r → Kept rows' n'
+  adds_kept r a = added_kept (refusal n t) refl r a

@@ -8,7 +8,7 @@ use Rattle.terms.specs.declared.table.TermTable.{TermTable}
 use Rattle.terms.specs.Facts.{terms_of}
 
 pub terms_many : (t : TermTable) → length (terms_of t) ≡ t.lent.count
-terms_many t = length-take-le t.lent.count t.lent.rows.now t.lent.within
+terms_many t = length-take-le t.lent.count t.lent.rows.now t.within
 
 pub terms_table : (t : TermTable) → Table (terms_of t)
 terms_table t = t.table

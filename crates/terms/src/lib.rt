@@ -8,3 +8,4 @@ mod table;
 pub use equal::{Equality, Relation};
 pub use faults::TermFault;
 pub use table::TermTable;
+pub use theory::Refusal;

@@ -1,4 +1,4 @@
-ghost use Rattle.std.specs.Prelude.{◌≡◌, ◌<◌, ◌≤◌, take, Some, None, MatchResult};
+ghost use Rattle.std.specs.Prelude.{◌≡◌, ◌<◌, ◌≤◌, length, take, Some, None, MatchResult};
 ghost use Rattle.equality.specs.Equality.{Table, no_term, term_at};
 ghost use Rattle.register.specs.Rows.{Cleared};
 ghost use Rattle.terms.specs.Adding.{refusal, Adds};
@@ -14,6 +14,7 @@ const MOST_TERMS: usize = 24;
 #[derive(Drop)]
 pub struct TermTable<'a> {
     lent: Register<'a, Term>,
+    ghost within: { lent.count ≤ length lent.rows.now },
     ghost few: { lent.count ≤ 24 },
     ghost table: { Table (take lent.count lent.rows.now) },
 }

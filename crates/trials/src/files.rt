@@ -22,32 +22,31 @@ fn term(number: u8) -> Record {
 }
 
 // A term, and the number of one, behind the last that a table has room for.
-fn full_tables(rt: &(impl Print + AllocGlobal)) -> io::Result<()> {
-    let terms: Vec<Record> = (0..24).map(term).collect(rt.alloc())?;
+fn full_tables(rt: &impl Print) -> io::Result<()> {
+    let mut terms = [Record::default(); 24];
+    for (row, number) in terms.iter_mut().zip(0..24) {
+        *row = term(number);
+    }
     let ask = [*b"AU\0\0\0\0\0\0"];
     let present = [term(23)];
     let new = [*b"T\0\x01\x01\0\0\0\0"];
     let last = [*b"P=\x17\x17\0\0\0\0"];
     let behind = [*b"P=\x17\x18\0\0\0\0"];
-    trial(
-        rt,
-        "24 terms of all shapes",
-        &[terms.as_slice(), &last, &ask],
-    )?;
-    trial(rt, "a 25th term", &[terms.as_slice(), &new, &ask])?;
+    trial(rt, "24 terms of all shapes", &[&terms, &last, &ask])?;
+    trial(rt, "a 25th term", &[&terms, &new, &ask])?;
     trial(
         rt,
         "a present term in a full table",
-        &[terms.as_slice(), &present, &last, &ask],
+        &[&terms, &present, &last, &ask],
     )?;
     trial(
         rt,
         "no 25th term in a full table",
-        &[terms.as_slice(), &present, &behind, &ask],
+        &[&terms, &present, &behind, &ask],
     )
 }
 
-pub fn all(rt: &(impl Print + AllocGlobal)) -> io::Result<()> {
+pub fn all(rt: &impl Print) -> io::Result<()> {
     cut_files(rt)?;
     full_tables(rt)
 }

@@ -1,37 +1,34 @@
-ghost use Rattle.std.specs.Prelude.{◌≤◌};
-
-use anyhow::anyhow;
+use arrayvec::ArrayString;
 use book::{Book, Inquiry};
 use diagrams::Row;
 use differences::{Bound, Differences};
 use equality::Term;
+use std::fmt::Write;
 use std::io;
 use terms::{Equality, Relation, TermTable};
 use theory::{Refusal, Theory};
 
 // A call was refused that no trial expects to be.
-fn refused<F: Refusal>(fault: F) -> anyhow::Error {
-    anyhow!("refused {}", fault.number())
+fn refused<F: Refusal>(fault: F) -> io::Error {
+    let mut words = ArrayString::<16>::new();
+    match write!(words, "refused {}", fault.number()) {
+        Ok(()) => io::Error::other(words.as_str()),
+        Err(error) => error.into(),
+    }
 }
 
-// Asks in so many rows and numbers to work in, and prints the choices that belong and the rows in use, or the refusal.
-fn ask<T: Theory, const ROWS: usize, const WORK: usize>(
+// Asks in these rows and numbers to work in, and prints the choices that belong and the rows in use, or the refusal.
+fn ask<T: Theory>(
     rt: &impl Print,
     name: &str,
     inquiry: &Inquiry<'_, T>,
-) -> anyhow::Result<()>
-    requires rows { ROWS ≤ 65536 }
-    requires work { WORK ≤ 65536 }
-{
-    let mut rows = [Row::default(); ROWS];
-    let mut work = [0u32; WORK];
-    let mut book = Book::open(&mut rows);
-    let (number, _) = match book.question(inquiry, &mut work) {
+    rows: &mut [Row],
+    work: &mut [u32],
+) -> io::Result<()> {
+    let mut book = Book::open(rows);
+    let (number, _) = match book.question(inquiry, work) {
         Ok(answer) => answer,
-        Err(fault) => {
-            println!(rt; "{name}: refused {}", fault.number())?;
-            return Ok(());
-        }
+        Err(fault) => return println!(rt; "{name}: refused {}", fault.number()),
     };
     print!(rt; "{name}: rows {}, choices", book.rows_in_use())?;
     for choice in 0..1u16 << inquiry.predicates.len().min(8) {
@@ -39,22 +36,24 @@ fn ask<T: Theory, const ROWS: usize, const WORK: usize>(
             print!(rt; " {choice}")?;
         }
     }
-    println!(rt; ".")?;
-    Ok(())
+    println!(rt; ".")
 }
 
 // A question: its name, its predicates and its goals.
 type Case<'c> = (&'c str, &'c [u16], &'c [u16]);
 
-// Asks each question with room enough.
-fn ask_all<T: Theory>(rt: &impl Print, theory: &T, cases: &[Case<'_>]) -> anyhow::Result<()> {
+// Asks each question with room enough. It is not inlined, so that this room lies on the stack only while it asks.
+#[inline(never)]
+fn ask_all<T: Theory>(rt: &impl Print, theory: &T, cases: &[Case<'_>]) -> io::Result<()> {
     for (name, predicates, goals) in cases {
+        let mut rows = [Row::default(); 4096];
+        let mut work = [0u32; 8192];
         let inquiry = Inquiry {
             theory,
             predicates,
             goals,
         };
-        ask::<T, 4096, 8192>(rt, name, &inquiry)?;
+        ask(rt, name, &inquiry, &mut rows, &mut work)?;
     }
     Ok(())
 }
@@ -84,7 +83,7 @@ fn eight_terms() -> [Term; 8] {
 }
 
 // Adds terms, none of which is refused.
-fn add_all(table: &mut TermTable<'_>, terms: &[Term]) -> anyhow::Result<()> {
+fn add_all(table: &mut TermTable<'_>, terms: &[Term]) -> io::Result<()> {
     for term in terms {
         table.add(*term).map_err(refused)?;
     }
@@ -92,12 +91,12 @@ fn add_all(table: &mut TermTable<'_>, terms: &[Term]) -> anyhow::Result<()> {
 }
 
 // The fact that two terms are equal.
-fn equal(theory: &Equality<'_, '_>, left: u8, right: u8) -> anyhow::Result<u16> {
+fn equal(theory: &Equality<'_, '_>, left: u8, right: u8) -> io::Result<u16> {
     theory.fact(Relation::Equal, left, right).map_err(refused)
 }
 
 // What equalities follow from others.
-fn equalities(rt: &impl Print) -> anyhow::Result<()> {
+fn equalities(rt: &impl Print) -> io::Result<()> {
     let mut rows = [Term::default(); 24];
     let mut table = TermTable::open(&mut rows);
     add_all(&mut table, &eight_terms())?;
@@ -138,7 +137,7 @@ fn equalities(rt: &impl Print) -> anyhow::Result<()> {
 }
 
 // What bounds follow from others, and which cannot all hold.
-fn bounds(rt: &impl Print) -> anyhow::Result<()> {
+fn bounds(rt: &impl Print) -> io::Result<()> {
     let theory = Differences::new(3).map_err(refused)?;
     let at_most = |left, right, constant| {
         theory
@@ -170,8 +169,9 @@ fn bounds(rt: &impl Print) -> anyhow::Result<()> {
     )
 }
 
-// The first question of the sample, a = b, b = c, goal a = c, in the least room that it needs and in less.
-fn rooms(rt: &impl Print) -> anyhow::Result<()> {
+// The first question of the sample, a = b, b = c, goal a = c, in the least room that it needs and in less. The last
+// two books are opened in the rows that the first one used.
+fn rooms(rt: &impl Print) -> io::Result<()> {
     let mut terms = [Term::default(); 3];
     let mut table = TermTable::open(&mut terms);
     add_all(&mut table, &eight_terms()[..3])?;
@@ -181,14 +181,30 @@ fn rooms(rt: &impl Print) -> anyhow::Result<()> {
         predicates: &[equal(&theory, 0, 1)?, equal(&theory, 1, 2)?],
         goals: &[equal(&theory, 0, 2)?],
     };
-    ask::<_, 3, 38>(rt, "13: 3 rows", &inquiry)?;
-    ask::<_, 2, 38>(rt, "13: 2 rows", &inquiry)?;
-    ask::<_, 3, 38>(rt, "12: 38 numbers to work in for 18 facts", &inquiry)?;
-    ask::<_, 3, 37>(rt, "12: 37 numbers to work in for 18 facts", &inquiry)
+    let mut three = [Row::default(); 3];
+    let mut two = [Row::default(); 2];
+    let mut enough = [0u32; 38];
+    let mut short = [0u32; 37];
+    ask(rt, "13: 3 rows", &inquiry, &mut three, &mut enough)?;
+    ask(rt, "13: 2 rows", &inquiry, &mut two, &mut enough)?;
+    ask(
+        rt,
+        "12: 38 numbers to work in for 18 facts",
+        &inquiry,
+        &mut three,
+        &mut enough,
+    )?;
+    ask(
+        rt,
+        "12: 37 numbers to work in for 18 facts",
+        &inquiry,
+        &mut three,
+        &mut short,
+    )
 }
 
 // The last fact of three terms, and the number behind it.
-fn facts(rt: &impl Print) -> anyhow::Result<()> {
+fn facts(rt: &impl Print) -> io::Result<()> {
     let mut terms = [Term::default(); 3];
     let mut table = TermTable::open(&mut terms);
     add_all(&mut table, &eight_terms()[..3])?;
@@ -220,11 +236,10 @@ fn readings(rt: &impl Print) -> io::Result<()> {
     Ok(())
 }
 
-pub fn all(rt: &impl Print) -> anyhow::Result<()> {
+pub fn all(rt: &impl Print) -> io::Result<()> {
     equalities(rt)?;
     bounds(rt)?;
     rooms(rt)?;
     facts(rt)?;
-    readings(rt)?;
-    Ok(())
+    readings(rt)
 }

@@ -174,14 +174,14 @@ const ORDERS: [Trial<'static>; 9] = [
 ];
 
 // Tries each trial of a table.
-fn try_all(rt: &(impl Print + AllocGlobal), trials: &[Trial<'_>]) -> io::Result<()> {
+fn try_all(rt: &impl Print, trials: &[Trial<'_>]) -> io::Result<()> {
     for (name, parts) in trials {
         trial(rt, name, parts)?;
     }
     Ok(())
 }
 
-pub fn all(rt: &(impl Print + AllocGlobal)) -> io::Result<()> {
+pub fn all(rt: &impl Print) -> io::Result<()> {
     try_all(rt, &TERMS)?;
     try_all(rt, &VARIABLES)?;
     try_all(rt, &CONSTANTS)?;

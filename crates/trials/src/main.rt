@@ -27,14 +27,14 @@ const SAMPLE: [Record; 14] = [
 ];
 
 // The sample file up to each of its questions.
-fn sample_lines(rt: &(impl Print + AllocGlobal)) -> io::Result<()> {
+fn sample_lines(rt: &impl Print) -> io::Result<()> {
     trial(rt, "empty file", &[&SAMPLE[..0]])?;
     trial(rt, "sample, first question", &[&SAMPLE[..7]])?;
     trial(rt, "sample, second question", &[&SAMPLE[..10]])?;
     trial(rt, "sample, third question", &[&SAMPLE])
 }
 
-fn main(rt: HostRuntime) -> anyhow::Result<()> {
+fn main(rt: HostRuntime) -> io::Result<()> {
     sample_lines(&rt)?;
     files::all(&rt)?;
     limits::all(&rt)?;

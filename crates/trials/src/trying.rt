@@ -1,5 +1,6 @@
 ghost use Rattle.std.specs.Prelude.{◌≤◌};
 
+use arrayvec::ArrayVec;
 use book::Book;
 use diagrams::Row;
 use equality::Term;
@@ -8,6 +9,7 @@ use session::Session;
 use std::convert::Infallible;
 use std::fmt::Display;
 use std::io;
+use std::io::Write;
 use terms::TermTable;
 
 // A record of a file.
@@ -15,6 +17,9 @@ pub type Record = [u8; 8];
 
 // A trial: its name, and the parts of its file, one after the other.
 pub type Trial<'t> = (&'t str, &'t [&'t [Record]]);
+
+// The file of a trial has at most so many bytes: 257 records.
+const MOST_BYTES: usize = 2056;
 
 // The last line that a run over a file prints, in so much memory.
 fn last_line<const ROWS: usize, const TERMS: usize, const WORK: usize>(file: &[u8]) -> Line
@@ -46,14 +51,11 @@ fn show(rt: &impl Print, name: impl Display + Drop, line: &Line) -> io::Result<(
 }
 
 // A trial of a file of records.
-pub fn trial(rt: &(impl Print + AllocGlobal), name: &str, parts: &[&[Record]]) -> io::Result<()> {
-    let file: Vec<u8> = parts
-        .iter()
-        .copied()
-        .flatten()
-        .flatten()
-        .copied()
-        .collect(rt.alloc())?;
+pub fn trial(rt: &impl Print, name: &str, parts: &[&[Record]]) -> io::Result<()> {
+    let mut file = ArrayVec::<u8, MOST_BYTES>::new();
+    for part in parts {
+        file.write_all(part.as_flattened())?;
+    }
     show(rt, name, &last_line::<4096, 24, 16384>(file.as_slice()))
 }
 

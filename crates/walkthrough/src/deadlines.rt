@@ -144,18 +144,14 @@ const GOAL: Claim = Claim {
 };
 
 // Tells of starts and deadlines.
-pub fn tell(rt: &(impl Print + AllocGlobal), book: &mut Book<'_>) -> Result<(), Stop> {
+pub fn tell(rt: &impl Print, book: &mut Book<'_>) -> Result<(), Stop> {
     let theory = Differences::new(TICKS)?;
     tell_choices(rt, book, &theory)?;
     tell_goal(rt, book, &theory)
 }
 
 // Which statements cannot all be true, and why.
-fn tell_choices(
-    rt: &(impl Print + AllocGlobal),
-    book: &mut Book<'_>,
-    theory: &Differences,
-) -> Result<(), Stop> {
+fn tell_choices(rt: &impl Print, book: &mut Book<'_>, theory: &Differences) -> Result<(), Stop> {
     println!(rt; "\nStarts and deadlines, by differences of ticks:")?;
     tell_statements(rt, &PREDICATES)?;
     let mut teller = Teller::new(rt, book, theory, &PREDICATES)?;
@@ -179,13 +175,10 @@ fn tell_choices(
 }
 
 // Which cases make reroute miss its deadline.
-fn tell_goal(
-    rt: &(impl Print + AllocGlobal),
-    book: &mut Book<'_>,
-    theory: &Differences,
-) -> Result<(), Stop> {
+fn tell_goal(rt: &impl Print, book: &mut Book<'_>, theory: &Differences) -> Result<(), Stop> {
+    let mut teller = Teller::new(rt, book, theory, &PREDICATES[..4])?;
+    let wanted = GOAL.fact(theory)?;
     println!(rt; "\nThe goal: {GOAL}")?;
     println!(rt; "A case says yes to some of 0 to 3 and no to the others.")?;
-    let mut teller = Teller::new(rt, book, theory, &PREDICATES[..4])?;
-    teller.tell_cases(GOAL, &[])
+    teller.tell_cases(&[wanted], &[])
 }

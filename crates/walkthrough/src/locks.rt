@@ -162,7 +162,7 @@ const GOAL: Claim = Claim {
 };
 
 // Tells who holds which lock.
-pub fn tell(rt: &(impl Print + AllocGlobal), book: &mut Book<'_>) -> Result<(), Stop> {
+pub fn tell(rt: &impl Print, book: &mut Book<'_>) -> Result<(), Stop> {
     let mut rows = [Term::default(); 24];
     let mut table = TermTable::open(&mut rows);
     enter(&mut table)?;
@@ -173,7 +173,7 @@ pub fn tell(rt: &(impl Print + AllocGlobal), book: &mut Book<'_>) -> Result<(), 
 
 // Which statements cannot all be true, and why.
 fn tell_choices(
-    rt: &(impl Print + AllocGlobal),
+    rt: &impl Print,
     book: &mut Book<'_>,
     theory: &Equality<'_, '_>,
 ) -> Result<(), Stop> {
@@ -189,14 +189,12 @@ fn tell_choices(
     teller.tell_steps(contrary, &STEPS)
 }
 
-// That prefetch and render are two tasks is granted: its opposite is a goal besides.
-fn tell_goal(
-    rt: &(impl Print + AllocGlobal),
-    book: &mut Book<'_>,
-    theory: &Equality<'_, '_>,
-) -> Result<(), Stop> {
+// That prefetch and render are two tasks is granted: the second goal is its opposite.
+fn tell_goal(rt: &impl Print, book: &mut Book<'_>, theory: &Equality<'_, '_>) -> Result<(), Stop> {
+    let mut teller = Teller::new(rt, book, theory, &PREDICATES[..4])?;
+    let wanted = GOAL.fact(theory)?;
+    let granted = ONE_TASK.fact(theory)?;
     println!(rt; "\nThe goal: {GOAL}")?;
     println!(rt; "A case says yes to some of 0 to 3 and no to the others; 5 is granted.")?;
-    let mut teller = Teller::new(rt, book, theory, &PREDICATES[..4])?;
-    teller.tell_cases(GOAL, &[ONE_TASK])
+    teller.tell_cases(&[wanted, granted], &[granted])
 }

@@ -26,7 +26,7 @@ fn introduce(rt: &impl Print) -> io::Result<()> {
 }
 
 // The walkthrough, over one book.
-fn walk(rt: &(impl Print + AllocGlobal)) -> Result<(), Stop> {
+fn walk(rt: &impl Print) -> Result<(), Stop> {
     let mut rows = [Row::default(); 4096];
     let mut book = Book::open(&mut rows);
     introduce(rt)?;

@@ -1,11 +1,10 @@
 use book::{BookFault, QuestionFault};
-use std::alloc::AllocError;
 use std::io;
 use terms::TermFault;
 use theory::{FactFault, Refusal, TheoryFault};
 use thiserror::Error;
 
-// Why the walkthrough stopped: a call was refused, memory ran out, or a line was not printed.
+// Why the walkthrough stopped: a call was refused, or a line was not printed.
 #[derive(Debug, Drop, Error)]
 pub enum Stop {
     #[error("refused {}", .0.number())]
@@ -18,8 +17,6 @@ pub enum Stop {
     Question(#[from] QuestionFault),
     #[error("refused {}", .0.number())]
     Book(#[from] BookFault),
-    #[error(transparent)]
-    Memory(#[from(alloc)] AllocError),
     #[error(transparent)]
     Printing(#[from] io::Error),
 }

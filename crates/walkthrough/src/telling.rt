@@ -1,5 +1,6 @@
 use crate::choices::Choice;
 use crate::stop::Stop;
+use arrayvec::ArrayVec;
 use book::{Book, Inquiry, QuestionFault};
 use std::fmt::Display;
 use std::io;
@@ -11,17 +12,8 @@ pub trait Statement<T>: Copy + Display {
     fn fact(self, theory: &T) -> Result<u16, Stop>;
 }
 
-// The numbers of the statements' facts.
-fn facts<T, S: Statement<T>>(
-    rt: &impl AllocGlobal,
-    theory: &T,
-    statements: &[S],
-) -> Result<Vec<u16>, Stop> {
-    statements
-        .iter()
-        .map(|statement| statement.fact(theory))
-        .try_collect(rt.alloc())
-}
+// A teller keeps at most so many predicates: one more than any question takes, so that the book refuses a longer list.
+const MOST_PREDICATES: usize = 17;
 
 // An answer is a set of choices, by its number in the book.
 #[derive(Clone, Copy)]
@@ -35,10 +27,10 @@ pub struct Teller<'r, 'l, 'b, 't, R, T> {
     rt: &'r R,
     book: &'l mut Book<'b>,
     theory: &'t T,
-    predicates: Vec<u16>,
+    predicates: ArrayVec<u16, MOST_PREDICATES>,
 }
 
-impl<'r, 'l, 'b, 't, R: Print + AllocGlobal, T: Theory> Teller<'r, 'l, 'b, 't, R, T> {
+impl<'r, 'l, 'b, 't, R: Print, T: Theory> Teller<'r, 'l, 'b, 't, R, T> {
     // Takes statements as predicates.
     pub fn new<S: Statement<T>>(
         rt: &'r R,
@@ -46,7 +38,11 @@ impl<'r, 'l, 'b, 't, R: Print + AllocGlobal, T: Theory> Teller<'r, 'l, 'b, 't, R
         theory: &'t T,
         statements: &[S],
     ) -> Result<Self, Stop> {
-        let predicates = facts(rt, theory, statements)?;
+        let mut predicates = ArrayVec::new();
+        for statement in statements {
+            let fact = statement.fact(theory)?;
+            let _kept = predicates.try_push(fact);
+        }
         Ok(Teller {
             rt,
             book,
@@ -56,7 +52,7 @@ impl<'r, 'l, 'b, 't, R: Print + AllocGlobal, T: Theory> Teller<'r, 'l, 'b, 't, R
     }
 }
 
-impl<R: Print + AllocGlobal, T: Theory> Teller<'_, '_, '_, '_, R, T> {
+impl<R: Print, T: Theory> Teller<'_, '_, '_, '_, R, T> {
     // Which choices of the predicates are impossible while every goal is false.
     pub fn ask(&mut self, goals: &[u16]) -> Result<Answer, Stop> {
         self.answer(goals, |book, inquiry, work| book.question(inquiry, work))
@@ -153,13 +149,11 @@ impl<R: Print + AllocGlobal, T: Theory> Teller<'_, '_, '_, '_, R, T> {
         Ok(())
     }
 
-    // The full cases that force a goal. One that is impossible by what is granted alone cannot occur; a statement is granted
-    // by a goal that is its opposite.
-    pub fn tell_cases<S: Statement<T>>(&mut self, goal: S, granted: &[S]) -> Result<(), Stop> {
-        let mut goals = facts(self.rt, self.theory, granted)?;
-        let absurd = self.ask_cases(goals.as_slice())?;
-        goals.push(goal.fact(self.theory)?)?;
-        let forced = self.ask_cases(goals.as_slice())?;
+    // The full cases that force a goal. One that is impossible by the goals granted alone cannot occur; a statement is
+    // granted by a goal that is its opposite, which stands among the goals too.
+    pub fn tell_cases(&mut self, goals: &[u16], granted: &[u16]) -> Result<(), Stop> {
+        let forced = self.ask_cases(goals)?;
+        let absurd = self.ask_cases(granted)?;
         for case in self.choices().map(Choice) {
             let full = case.full_case(self.predicates.len());
             if self.reads(absurd, full)? {

@@ -6,7 +6,7 @@ use Rattle.saturation.proofs.Saturating.{too_many_more}
 use Rattle.saturation.proofs.Placing.{round_begins, place_empty, round_set_more}
 use Rattle.book.proofs.Failing.{failed}
 use Rattle.book.proofs.Grown.{ready}
-use Rattle.book.proofs.Holds.{stepped_none, stepped_more}
+use Rattle.book.proofs.Holds.{stepped_none, carried_on}
 use Rattle.book.proofs.work.Work.round.Goals as goal
 
 pub loop-place-init : goal.loop-place-init
@@ -14,7 +14,7 @@ loop-place-init g c =
     let r = c.args.manager.now.register in
     let w = c.args.self.now in
     let kept = (ready c.args.manager.now).kept in (
-      stepped_none r w kept c.requires.standing c.requires.gathered,
+      stepped_none c.args.manager.now w c.requires.standing c.requires.gathered,
       λ S h. round_begins (meaning g.T.Theory c.args.theory.now) S r.now.rows.now r.now.count w.standing.now w.gathered.now kept.sound h,
     )
 
@@ -58,7 +58,7 @@ loop-place-preserved g c =
     let s = c.loop-place.invariant in
     let k = c.loop-place.place in
     let one : suc k ≡ k + 1 = omega arith in (
-      stepped_more s.0 c.derive.ensures.stepped,
+      carried_on s.0 c.derive.ensures.stepped,
       λ S h. subst (λ z. InRound m S z t.rows.now t.count u.rows.now u.count w.standing.now w.gathered.now) one
           (c.in_ok-derive.ensures.derived m S k t.rows.now t.count (s.0.long ∙ c.requires.long) (sym c.rule.ensures ∙ c.in-Some.is) (s.1 S h)),
     )

@@ -6,13 +6,13 @@ use Rattle.saturation.specs.Stages.{Turned, AfterRounds, QuietAt}
 use Rattle.saturation.proofs.Turning.{rounds_begin, round_full, one_round_more, rounds_quiet, few_made}
 use Rattle.book.proofs.Failing.{failed}
 use Rattle.book.proofs.Grown.{ready}
-use Rattle.book.proofs.Holds.{stepped_none, stepped_more}
+use Rattle.book.proofs.Holds.{stepped_none, carried_on}
 use Rattle.book.proofs.work.Work.rounds.Goals as goal
 
 pub loop-gaining-init : goal.loop-gaining-init
 loop-gaining-init g c =
     let kept = (ready c.args.manager.now).kept in (
-      stepped_none c.args.manager.now.register c.args.self.now kept c.requires.standing c.requires.gathered,
+      stepped_none c.args.manager.now c.args.self.now c.requires.standing c.requires.gathered,
       λ q h. rounds_begin (meaning g.T.Theory c.args.theory.now) q kept.sound h,
     )
 
@@ -46,7 +46,7 @@ loop-gaining-preserved g c =
     let s = c.loop-gaining.invariant in
     let k = c.loop-gaining.gaining in
     let one : suc k ≡ k + 1 = omega arith in (
-      stepped_more s.0 c.next_round.ensures.stepped,
+      carried_on s.0 c.next_round.ensures.stepped,
       λ q h. let a = s.1 q h in
           subst (λ z. AfterRounds m q z r.rows.now r.count u.rows.now u.count w.standing.now w.gathered.now) one
           (one_round_more m q a (subst (λ z. Turned m (λ x. after m q x k) t.rows.now t.count u.rows.now u.count w.standing.now w.gathered.now z) c.if-not-changed.false (c.in_ok-changed.ensures.turns (λ x. after m q x k) a.halves))),

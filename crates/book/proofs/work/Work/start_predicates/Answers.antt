@@ -4,14 +4,14 @@ use Rattle.saturation.proofs.Saturating.{too_many_more}
 use Rattle.saturation.proofs.Starting.{start_begins, start_set_more}
 use Rattle.book.proofs.Failing.{failed}
 use Rattle.book.proofs.Grown.{ready}
-use Rattle.book.proofs.Holds.{stepped_none, stepped_more}
+use Rattle.book.proofs.Holds.{stepped_none, carried_on}
 use Rattle.book.proofs.work.Work.start_predicates.Goals as goal
 
 pub loop-position-init : goal.loop-position-init
 loop-position-init c =
     let r = c.args.manager.now.register in
     let kept = (ready c.args.manager.now).kept in (
-      stepped_none r c.args.self.now kept c.requires.standing c.requires.gathered,
+      stepped_none c.args.manager.now c.args.self.now c.requires.standing c.requires.gathered,
       λ facts below zeros. start_begins facts c.args.predicates.now r.now.rows.now r.now.count c.args.self.now.standing.now kept.sound (λ k lt. zeros k),
     )
 
@@ -32,7 +32,7 @@ loop-position-preserved c =
     let ps = c.args.predicates.now in
     let k = c.loop-position.position in
     let one : suc k ≡ k + 1 = omega arith in (
-      stepped_more s.0 c.gather_position.ensures.stepped,
+      carried_on s.0 c.gather_position.ensures.stepped,
       λ facts below zeros. subst (λ z. Started facts ps z t.rows.now t.count u.rows.now u.count c.gather_position.new.self.standing.now) one
           (c.in_ok-gather_position.ensures.positioned facts ps t.rows.now t.count refl (below k c.loop-position-test.true) (s.1 facts below zeros)),
     )
